@@ -1,5 +1,6 @@
 //! Bytes that are opened as the archive of a document, for questions and edits.
 ghost use Rattle.std.specs.Prelude.{◌≡◌, ◌-◌, ◌^◌, ◌<◌, length, IfOk, IfErr, OnOk};
+ghost use Rattle.std.specs.Option.{option_map};
 ghost use Rattle.archive_shape.specs.ShapeLayout.Holds.{root_position as position_of_root};
 ghost use Rattle.archive_shape.specs.ShapeLayout.Content.Part.{at};
 ghost use Rattle.archive_shape_writing.specs.Writing.{Writes};
@@ -7,14 +8,17 @@ ghost use Rattle.archive_core_validation.specs.FormsValues.Parts.{HasValue};
 ghost use Rattle.cabinet_text_grammar.specs.Tree.{Tree};
 ghost use Rattle.cabinet_text_grammar.specs.Line as line;
 ghost use Rattle.cabinet_text_grammar.specs.Answering.{answer, change, spelled_answer};
+ghost use Rattle.cabinet_text_grammar.specs.Path.{node_at};
 ghost use Rattle.cabinet_archived.specs.Documents.Node.{node_shape, KnowsNode};
 ghost use Rattle.cabinet_archived.specs.Documents.Accepted.{Accepted};
 ghost use Rattle.cabinet_archived.specs.Documents.Audit.{IsRefusedFor};
 ghost use Rattle.cabinet_archived.specs.Documents.Image.{Image};
 ghost use Rattle.cabinet_text_nodes.specs.Answers.{Tells};
+ghost use Rattle.cabinet_text_nodes.specs.Kinds.{kind_of};
 ghost use Rattle.cabinet_text_nodes.specs.Lines.{IsQuestion};
 ghost use Rattle.cabinet_text_nodes.specs.Outcomes.{outcome_of};
 ghost use Rattle.cabinet_text_nodes.specs.View.{leaf_of, line_of, path_of};
+ghost use Rattle.cabinet_archives.specs.Cost.{PathTakes};
 ghost use Rattle.cabinet_archives.specs.Refused.{refusal_of};
 ghost use Rattle.cabinet_archives.specs.Failing.{FailsByWriter};
 ghost use Rattle.cabinet_archives.specs.Setting.{EditLeaves};
@@ -22,11 +26,11 @@ ghost use Rattle.cabinet_archives.specs.Sound.{IsSoundPart};
 
 use archive_core_validation::root_position;
 use archive_hash_probing::{Group, Scan};
-use archive_shape::Ref;
+use archive_shape::{Ref, Steps};
 use archive_shape_writing::{Error, Writer};
 use cabinet_archived::ArchivedNode;
 use cabinet_archives::{OpenRefusal, check_scanned};
-use cabinet_text_nodes::{Asked, Document, Leaf, Line, SetAnswer, Step};
+use cabinet_text_nodes::{Asked, Document, Kind, Leaf, Line, SetAnswer, Step};
 use std::alloc::{AllocError, Global};
 use std::marker::PhantomData;
 
@@ -106,6 +110,19 @@ impl<'a, G: Scan> Opened<'a, G> {
         ensures counted { FailsByWriter W.Writer writer.old writer.new result }
     {
         cabinet_archives::ask::<G, W>(self.root(), line, writer)
+    }
+
+    /// Returns the kind of the node that a path leads to, if it leads to one, and what the look-ups on the path took: the
+    /// keys that were compared in ordered maps, at most 160 in each, and the strides of sixteen controls that were
+    /// searched in hashed and kept maps, at most one for sixteen places in each. All scans take the same. Reads only the
+    /// nodes on the path, and does not allocate.
+    pub fn locate(&self, path: &[Step]) -> (Option<Kind>, Steps)
+        ensures kind { (t : Tree) → Accepted self.now.bytes.now t
+            → result.0 ≡ option_map kind_of (node_at t (path_of path.now)) }
+        ensures takes { PathTakes self.now.bytes.now (position_of_root (length self.now.bytes.now) node_shape)
+            (path_of path.now) result.1.comparisons result.1.strides }
+    {
+        cabinet_archives::locate::<G>(self.bytes, path)
     }
 
     /// Returns the document of the archive, in memory of its own. An `Err` says that an allocation failed.

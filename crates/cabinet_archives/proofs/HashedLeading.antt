@@ -1,5 +1,5 @@
 -- What a key leads to in a hashed map whose walk has no fault.
-use Rattle.std.proofs.Common.{◌≡◌, ℕ, ◌^◌, ◌<◌, List, Option, Some, None, refl, sym, ap, subst, ◌∙◌, arith}
+use Rattle.std.proofs.Common.{◌≡◌, ℕ, ◌^◌, ◌<◌, ◌≤◌, map, List, Option, Some, None, refl, sym, ap, subst, ◌∙◌, arith}
 use Rattle.std.specs.List.{slice_get}
 use Rattle.std.specs.Option.{option_map}
 use Rattle.std.proofs.Math.Logic.{∥∥₁_map}
@@ -13,22 +13,25 @@ use Rattle.archive_forms_values.specs.Fields.{field_position}
 use Rattle.archive_forms_values.specs.Parts.{HasValue}
 use Rattle.archive_hash_probing.specs.ShapeCanonical.FirstFit.{hash_tag}
 use Rattle.archive_hash_probing.specs.ShapeCanonical.Hash.{text_hash}
+use Rattle.archive_hash_probing.specs.ShapeCanonical.Strides.{sixteens}
 use Rattle.archive_hash_walking.specs.Tables.{Buckets, full_places, item_positions, IsTableAt, IsTableOf}
 use Rattle.archive_hash_walking.specs.Places.{LooksUp}
 use Rattle.archive_hash_walking.proofs.Read.{table_is_read}
-use Rattle.cabinet_archived.specs.Documents.Node.{node_shape, pair_shape}
+use Rattle.cabinet_archived.specs.Documents.Node.{node_shape, pair_shape, KnowsNode}
 use Rattle.cabinet_archived.specs.Documents.Audit.{hashed_faults}
-use Rattle.cabinet_archived.specs.Documents.Table.{Findable, found}
+use Rattle.cabinet_archived.specs.Documents.Table.{Findable, found, hashed_at, table_of}
 use Rattle.cabinet_archived.proofs.Documents.FoundKeys.{hashed_is_findable}
+use Rattle.cabinet_archives.specs.Cost.{Searches}
 use Rattle.cabinet_archives.specs.Hashed.{table_shape, HasBucket}
 use Rattle.cabinet_archives.specs.Keyed.{KeyLeads, KeyLeadsNowhere, SaysKey, knows_pairs}
 use Rattle.cabinet_archives.specs.Sound.{IsSoundPart}
-use Rattle.cabinet_archives.proofs.Pairs.{read_at, got_read, entries_of_pairs, node_quiet}
+use Rattle.cabinet_archives.proofs.Pairs.{read_at, got_read, pair_entry, pair_texts, entries_of_pairs, node_quiet}
 use Rattle.cabinet_archives.proofs.PairsLeading.{FirstWith, NoneWith, quiet_part, none_leads, first_leads, first_way}
 use Rattle.cabinet_archives.proofs.SlotLookups.{mapped_none, mapped_some}
-use Rattle.cabinet_archives.proofs.TableLookups.{pair_at, text_of, text_table, FoundPlace, found_place, finds_itself, search_is}
+use Rattle.cabinet_archives.proofs.TableLookups.{pair_at, text_of, text_table, FoundPlace, found_place, finds_itself, search_is, strides_are}
 use Rattle.cabinet_archives.proofs.TablePairs.{table_in, table_quiet}
-use Rattle.cabinet_archives.proofs.Texts.{text_at}
+use Rattle.cabinet_archives.proofs.Tables.{table_is}
+use Rattle.cabinet_archives.proofs.Texts.{text_at, held_keys}
 
 module _ (bytes : List ℕ) (pos : ℕ) (key : List ℕ) (sound : IsSoundPart bytes (at pos table_shape)) (b : Buckets) (table : IsTableAt bytes pair_shape pos b) where
   -- each key is found
@@ -133,3 +136,20 @@ module _ (bytes : List ℕ) (pos : ℕ) (key : List ℕ) (hash : ℕ) (result : 
               let first = first_with bytes pos key sound m.buckets m.table f.0 f.1 in
               subst (λ n. IsSoundPart bytes (at n node_shape)) (node_at m.buckets f)
               (∥∥₁_map sound (λ walk. node_quiet bytes (table_in bytes m.table walk.walked) walk.sound first.index (pair_at bytes m.buckets f.0) first.there))
+
+-- ---- by how many strides it searches
+
+module _ (bytes : List ℕ) (pos : ℕ) (key : List ℕ) (hash : ℕ) (result : Option ℕ) (n : ℕ) (is_hash : hash ≡ text_hash key) (low : hash < 2 ^ 64)
+    (answers : (b : Buckets) → IsTableAt bytes pair_shape pos b → LooksUp (SaysKey bytes key) pair_shape b hash result n)
+    (few : (b : Buckets) → IsTableAt bytes pair_shape pos b → n ≤ sixteens b.cap)
+  where
+    pub searches : (v : Value) → HeldAt table_shape knows_pairs bytes pos v → Searches (table_of hashed_at bytes pos v) key n
+    searches v h =
+        let m = table_is_read pair_shape knows_pairs bytes pos v h in
+        let b = m.buckets in
+        let positions = item_positions pair_shape b in
+        let keys = held_keys node_shape bytes KnowsNode (map (pair_entry bytes) positions) (members v) (entries_of_pairs bytes positions (members v) m.items) ∙ pair_texts bytes positions in
+        subst (λ t. Searches t key n) (sym (table_is (text_at bytes) pair_shape bytes pos v b m.table keys)) (
+          strides_are bytes b key (subst (λ h. hash_tag h < 128) is_hash (tag_low hash low)) pos m.table result n (subst (λ h. LooksUp (SaysKey bytes key) pair_shape b h result n) is_hash (answers b m.table)),
+          few b m.table,
+        )

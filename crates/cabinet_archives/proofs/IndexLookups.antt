@@ -10,6 +10,8 @@ use Rattle.archive_shape.specs.ShapeLayout.Shape.Shape.{text}
 use Rattle.archive_forms_values.specs.FormsLaws.Sample.{number_shape}
 use Rattle.archive_hash_probing.specs.ShapeCanonical.FirstFit.{hash_tag}
 use Rattle.archive_hash_probing.specs.ShapeCanonical.Hash.{text_hash}
+use Rattle.archive_hash_probing.specs.ShapeCanonical.Reach.{searched}
+use Rattle.archive_hash_probing.specs.ShapeCanonical.Strides.{strides}
 use Rattle.archive_hash_walking.specs.Tables.{Buckets, full_places, item_position, item_positions}
 use Rattle.cabinet_archived.specs.Documents.Audit.{kept_faults}
 use Rattle.cabinet_archived.specs.Documents.Node.{node_shape, pair_shape}
@@ -19,10 +21,12 @@ use Rattle.cabinet_archived.specs.Index.Lookups.{AnswersEntry}
 use Rattle.cabinet_archived.specs.Index.Maps.{IndexMap, IsMapAt, adjacent, count_of, entry_position, entry_positions}
 use Rattle.cabinet_archived.proofs.Documents.FoundKeys.{from_map, kept_is_findable}
 use Rattle.cabinet_archived.proofs.Index.Walk.{walk_length}
+use Rattle.cabinet_archives.specs.Cost.{strides_to}
 use Rattle.cabinet_archives.specs.Keyed.{SaysKey}
 use Rattle.cabinet_archives.proofs.Pairs.{got_read}
 use Rattle.cabinet_archives.proofs.SlotLookups as slots
-use Rattle.cabinet_archives.proofs.SlotLookups.{FoundPlace, found_place, full_low}
+use Rattle.cabinet_archives.proofs.SlotLookups.{FoundPlace, found_place}
+use Rattle.cabinet_archives.proofs.TableLookups.{said_apart}
 use Rattle.cabinet_archives.proofs.Tables.{slot_of, index_table, number_of, numbered_key}
 use Rattle.cabinet_archives.proofs.Texts.{text_at, text_is}
 
@@ -177,3 +181,10 @@ module _ (bytes : List ℕ) (m : IndexMap) where
             twice : (o : Option ℕ) → option_map (word_at bytes) (option_map (item_position number_shape m.buckets.target) o) ≡ option_map number_at o
             twice None = refl
             twice (Some q) = refl
+
+        -- how many strides it searches
+        pub strides_are : (result : Option ℕ) (n : ℕ) → AnswersEntry bytes text node_shape m (SaysKey bytes key) (λ i. i) (text_hash key) result n
+            → n ≡ strides_to m.buckets.cap (found key_table key) (searched m.buckets.controls (strides (text_hash key) m.buckets.cap))
+        strides_are result n a =
+            slots.strides_are number_at key_at m.buckets key_table.entries key low number_shape (λ x. SaysKey bytes key (position (word_at bytes x))) means
+            (λ x. said_apart bytes key (position (word_at bytes x))) bytes pos at.table a.position n a.looks_up

@@ -29,9 +29,9 @@ use Rattle.cabinet_archives.specs.Kept.{index_shape}
 use Rattle.cabinet_archives.specs.Keyed.{knows_pairs}
 use Rattle.cabinet_archives.specs.Sound.{HasSoundWalk}
 use Rattle.cabinet_archives.proofs.IndexLookups.{key_count, key_table, key_texts}
-use Rattle.cabinet_archives.proofs.Pairs.{PairsIn, pair_entry, pairs_keys, entries_of_pairs, own_quiet, no_pairs, pair_here}
+use Rattle.cabinet_archives.proofs.Pairs.{PairsIn, pair_entry, pair_texts, pairs_keys, entries_of_pairs, own_quiet, no_pairs, pair_here}
 use Rattle.cabinet_archives.proofs.Tables.{index_table_is}
-use Rattle.cabinet_archives.proofs.Texts.{text_at}
+use Rattle.cabinet_archives.proofs.Texts.{text_at, held_keys}
 
 -- elements side by side, one for each position
 pub items_aside : (bytes : List ℕ) (start n : ℕ) (vs : Values) → count_values vs ≡ n
@@ -109,6 +109,14 @@ module _ (bytes : List ℕ) where
       → table_of kept_at bytes pos v ≡ key_table bytes m
   walked_table {pos = pos} {m = m} {v = v} stands h =
       index_table_is bytes (key_texts bytes m) pos v m.buckets stands.table (pairs_keys bytes (index_in stands h)) (no_keys stands)
+
+  -- the table of a value that the layout holds
+  pub held_table : (pos : ℕ) (v : Value) (h : HeldAt index_shape knows_pairs bytes pos v) → table_of kept_at bytes pos v ≡ key_table bytes (map_of_value pos v h).map
+  held_table pos v h =
+      let r = map_of_value pos v h in
+      let positions = entry_positions text node_shape r.map in
+      index_table_is bytes (key_texts bytes r.map) pos v r.map.buckets r.stands.table
+      (held_keys node_shape bytes KnowsNode (map (pair_entry bytes) positions) (members v) (entries_of pos v h) ∙ pair_texts bytes positions) (no_keys r.stands)
 
   -- where a walk has no fault, the table has none
   pub index_quiet : {pos : ℕ} {m : IndexMap} → IsMapAt bytes text node_shape pos m → HasSoundWalk bytes (at pos index_shape) → kept_faults (key_table bytes m) ≡ []

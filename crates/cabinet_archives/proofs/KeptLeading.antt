@@ -14,15 +14,16 @@ use Rattle.archive_hash_probing.specs.ShapeCanonical.FirstFit.{hash_tag}
 use Rattle.archive_hash_probing.specs.ShapeCanonical.Hash.{text_hash}
 use Rattle.cabinet_archived.specs.Documents.Audit.{kept_faults}
 use Rattle.cabinet_archived.specs.Documents.Node.{node_shape, pair_shape}
-use Rattle.cabinet_archived.specs.Documents.Table.{Findable, found}
+use Rattle.cabinet_archived.specs.Documents.Table.{Findable, found, kept_at, table_of}
 use Rattle.cabinet_archived.specs.Index.Lookups.{AnswersEntry}
 use Rattle.cabinet_archived.specs.Index.Maps.{IndexMap, IsMapAt, count_of, entry_positions}
+use Rattle.cabinet_archives.specs.Cost.{Searches}
 use Rattle.cabinet_archives.specs.Kept.{HasNumbered, index_shape}
 use Rattle.cabinet_archives.specs.Keyed.{KeyLeads, KeyLeadsNowhere, SaysKey, knows_pairs}
 use Rattle.cabinet_archives.specs.Sound.{IsSoundPart}
 use Rattle.cabinet_archives.proofs.HashedLeading.{tag_low}
-use Rattle.cabinet_archives.proofs.IndexLookups.{position, position_at, at_position, key_table, key_is, number_at, key_findable, found_entry, found_low, finds_number, search_is}
-use Rattle.cabinet_archives.proofs.IndexPairs.{entries_of, index_in, index_quiet, map_of_value}
+use Rattle.cabinet_archives.proofs.IndexLookups.{position, position_at, at_position, key_table, key_is, number_at, key_findable, found_entry, found_low, finds_number, search_is, strides_are}
+use Rattle.cabinet_archives.proofs.IndexPairs.{entries_of, held_table, index_in, index_quiet, map_of_value}
 use Rattle.cabinet_archives.proofs.Pairs.{node_quiet}
 use Rattle.cabinet_archives.proofs.PairsLeading.{FirstWith, NoneWith, quiet_part, none_leads, first_leads, first_way}
 use Rattle.cabinet_archives.proofs.SlotLookups.{mapped_none, mapped_some}
@@ -106,3 +107,18 @@ module _ (bytes : List ℕ) (pos : ℕ) (key : List ℕ) (hash : ℕ) (result : 
               let first = first_of r.map r.stands in
               subst (λ n. IsSoundPart bytes (at n node_shape)) (sym (is_node r.map r.stands))
               (∥∥₁_map sound (λ walk. node_quiet bytes (index_in bytes r.stands walk.walked) walk.sound first.index (position bytes r.map i) first.there))
+
+-- ---- by how many strides it searches
+
+module _ (bytes : List ℕ) (pos : ℕ) (key : List ℕ) (hash : ℕ) (result : Option ℕ) (n : ℕ) (is_hash : hash ≡ text_hash key) (low : hash < 2 ^ 64)
+    (answers : (m : IndexMap) → IsMapAt bytes text node_shape pos m → AnswersEntry bytes text node_shape m (SaysKey bytes key) (λ i. i) hash result n)
+  where
+    pub searches : (v : Value) → HeldAt index_shape knows_pairs bytes pos v → Searches (table_of kept_at bytes pos v) key n
+    searches v h =
+        let r = map_of_value bytes pos v h in
+        let m = r.map in
+        let a = answers m r.stands in
+        subst (λ t. Searches t key n) (sym (held_table bytes pos v h)) (
+          strides_are bytes m pos r.stands key (subst (λ h. hash_tag h < 128) is_hash (tag_low hash low)) result n (subst (λ h. AnswersEntry bytes text node_shape m (SaysKey bytes key) (λ i. i) h result n) is_hash a),
+          a.few,
+        )

@@ -1,5 +1,5 @@
 -- What a key leads to in an ordered map whose walk has no fault.
-use Rattle.std.proofs.Common.{◌≡◌, ℕ, zero, suc, ◌<◌, Bool, Bor, true, false, cond, List, [], ◌∷◌, Option, Some, None, MatchOption, refl, sym, ap, subst, ◌∙◌, nat_lt, ◌++◌, arith}
+use Rattle.std.proofs.Common.{◌≡◌, ℕ, zero, suc, ◌<◌, Bool, Bor, true, false, cond, List, [], ◌∷◌, Option, Some, None, MatchOption, refl, sym, ap, subst, ◌∙◌, nat_lt, ◌++◌, ◌-◌, ◌^◌, ◌≤◌, min, arith}
 use Rattle.std.specs.Prelude.{⊤, All, IfSome}
 use Rattle.std.specs.List.{find, flat_map, slice_get}
 use Rattle.std.specs.Option.{option_map}
@@ -11,6 +11,7 @@ use Rattle.std.proofs.lemmas.Cmp.{nat_list_cmp_total, tied_itself}
 use Rattle.std.proofs.lemmas.Map.Text.{is_eq-slice_cmp}
 use Rattle.std.proofs.lemmas.Slice.Eq.{bytes_eq-Decides}
 use Rattle.std.proofs.Math.Bool.{Bool-set}
+use Rattle.std.proofs.Math.Nat.{min-eq_left}
 use Rattle.std.proofs.Math.Logic.{∥∥₁_elim, ∥∥₁_map}
 use Rattle.std.proofs.lemmas.List.Elements.{All-nil, All-cons}
 use Rattle.std.proofs.lemmas.List.Kept.{AllPairs-cons}
@@ -26,9 +27,10 @@ use Rattle.archive_shape.specs.Key.{HeldAt}
 use Rattle.archive_forms_values.specs.FormsLaws.Text.{IsText}
 use Rattle.archive_btree_walking.specs.BtreeLayout.Tree.{Tree, items}
 use Rattle.archive_btree_walking.specs.BtreeLayout.Reading.{Place}
-use Rattle.archive_btree_walking.specs.BtreeLayout.Descent.{descend, Ascends}
-use Rattle.cabinet_archived.proofs.Documents.BtreeLayout.Descending.{descent_finds, asc_of}
+use Rattle.archive_btree_walking.specs.BtreeLayout.Descent.{descend, met, Ascends}
+use Rattle.cabinet_archived.proofs.Documents.BtreeLayout.Descending.{descent_finds, asc_of, met_bound}
 use Rattle.archive_btree_walking.specs.Maps.{IsMapAt, IsMapOf, IsEntryAt, AreEntriesAt}
+use Rattle.archive_btree_walking.specs.Maps.IsMapAt.{has_none, has_root}
 use Rattle.archive_btree_walking.specs.Lookups.{QueryOrders}
 use Rattle.archive_btree_walking.specs.Refs.{value_at}
 use Rattle.archive_btree_walking.proofs.Roots.{tree_of_value}
@@ -41,6 +43,7 @@ use Rattle.cabinet_archived.proofs.Documents.TreeWalks.{ItemsWalk, no_items, mor
 use Rattle.archive_forms_values.specs.Parts.{HasValue}
 use Rattle.cabinet_archived.specs.Documents.Node.{node_shape, node_names, KnowsNode}
 use Rattle.cabinet_archived.specs.declared.node.ArchivedNode.{ArchivedNode}
+use Rattle.cabinet_archives.specs.Cost.{Compares}
 use Rattle.cabinet_archives.specs.Ordered.{map_shape, HasEntry}
 use Rattle.cabinet_archives.specs.Keyed.{KeyLeads, KeyLeadsNowhere, knows_pairs}
 use Rattle.cabinet_archives.specs.Sound.{HasSoundWalk, IsSoundPart}
@@ -324,3 +327,30 @@ module _ (bytes : Bor (List ℕ)) (pos : ℕ) (query : Bor (List ℕ)) where
             → IfSome (option_map (λ p. value_at bytes {V = ArchivedNode} p) o) (λ node. IsSoundPart bytes.now (at node.pos node_shape))
         by t m None e = tt
         by t m (Some p) e = ∥∥₁_map sound (one t m p e)
+
+-- ---- how many keys a search compares
+
+module _ (bytes : Bor (List ℕ)) (pos : ℕ) (query : Bor (List ℕ)) where
+  met_low : (order : Place → Ordering) (t : Tree Place) → IsMapAt bytes.now 5 text node_shape pos t → met order t ≤ 160
+  met_low order t (has_none none is) = let zero = ap (met order) is in omega (arith, zero)
+  met_low order t (has_root {root = root} some leads node count) = let low = met_bound order bytes.now 5 text node_shape 1 root t node in omega (arith, low)
+
+  -- it compares those that the descent meets
+  pub compares : HasValue map_shape knows_pairs bytes.now pos → (n : ℕ)
+      → ((t : Tree Place) (order : Place → Ordering) → IsMapAt bytes.now 5 text node_shape pos t
+      → QueryOrders (λ b at (key : Bor (List ℕ)). IsText b at key.now) (λ key q. slice_cmp nat_cmp key.now q.now) bytes.now query order (items t) → n ≡ min (met order t) (2 ^ 64 - 1))
+      → Compares bytes.now pos query.now n
+  compares has n count =
+      let m : IsMapOf text node_shape (λ _. ⊤) KnowsNode bytes.now 5 pos has.value = tree_of_value has in
+      let t = m.search_tree in
+      let order = order_at bytes.now query.now in
+      let low = met_low order t m.map in
+      let same : n ≡ met order t = count t order m.map (orders bytes pos query (items t)) ∙ min-eq_left {n = met order t} {m = 2 ^ 64 - 1} (omega (arith, low)) in
+      record {
+        search_tree = t;
+        order = order;
+        map = m.map;
+        orders = λ p k is. sym (nat_list_cmp_total.antisymm query.now (text_at bytes.now p.key)) ∙ ap (slice_cmp nat_cmp query.now) (sym (text_is bytes.now p.key k is));
+        count = same;
+        few = omega (arith, same, low);
+      }

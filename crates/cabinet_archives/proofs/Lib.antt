@@ -3,7 +3,9 @@ mod Ascending
 mod Audited
 mod Auditing
 mod Buckets
+mod Costs
 mod Entries
+mod Exact
 mod HashedAuditing
 mod HashedLeading
 mod IndexAudit
@@ -25,6 +27,7 @@ mod LoadedRoot
 mod LoadedTexts
 mod MapKeys
 mod NoSteps
+mod NodeKinds
 mod Numbered
 mod Outcomes
 mod OwnPlaces

@@ -1,5 +1,5 @@
 -- Steps that a node has not, by its kind.
-use Rattle.std.proofs.Common.{◌≡◌, ℕ, List, [], ◌∷◌, Bor, Global, refl, arith}
+use Rattle.std.proofs.Common.{◌≡◌, ℕ, List, [], ◌∷◌, Bor, Global, refl, subst, arith}
 use Rattle.std.specs.Prelude.{true, false, ⊤, String}
 use Rattle.std.specs.Int.{w64}
 use Rattle.archive_shape.specs.ShapeLayout.Shape.Shape.{number, truth, text, shared, option, vector}
@@ -12,12 +12,15 @@ use Rattle.cabinet_archived.specs.declared.kind.ArchivedKind.TheVariants as kind
 use Rattle.cabinet_text_nodes.specs.View.{step_of}
 use Rattle.cabinet_text_nodes.specs.declared.line.Step.{Step}
 use Rattle.cabinet_text_nodes.specs.declared.line.Step.TheVariants as step
+use Rattle.archive_forms_values.specs.Parts.{HasValue}
+use Rattle.cabinet_archives.specs.Cost.{IsLookUp}
 use Rattle.cabinet_archives.specs.Keyed.{knows_pairs}
 use Rattle.cabinet_archives.specs.Found.{ReachesNone}
 use Rattle.cabinet_archives.specs.Hashed.{table_shape}
 use Rattle.cabinet_archives.specs.Kept.{index_shape}
 use Rattle.cabinet_archives.specs.Ordered.{map_shape}
 use Rattle.cabinet_archives.proofs.Stepping.{IsNotInside, IsNoPlace, IsNoKey}
+use Rattle.cabinet_archives.proofs.Tags.{tag_is}
 use Rattle.cabinet_archives.proofs.Ways.{Boxed, other_none}
 
 pub not_inside : (s : Step) → (s ≡ step.Inside → ⊥) → IsNotInside (step_of s)
@@ -52,3 +55,19 @@ no_step bytes pos (kind.List r) s is apart beside keyless tableless numberless =
 no_step bytes pos (kind.Ordered r) s is apart beside keyless tableless numberless = other_none bytes.now pos s 6 map_shape knows_pairs r.pos (λ e. absurd (omega (arith, e))) (λ e. absurd (omega (arith, e))) (λ e. keyless r refl) is.2
 no_step bytes pos (kind.Hashed r) s is apart beside keyless tableless numberless = other_none bytes.now pos s 7 table_shape knows_pairs r.pos (λ e. absurd (omega (arith, e))) (λ e. absurd (omega (arith, e))) (λ e. tableless r refl) is.2
 no_step bytes pos (kind.Kept r) s is apart beside keyless tableless numberless = other_none bytes.now pos s 8 index_shape knows_pairs r.pos (λ e. absurd (omega (arith, e))) (λ e. absurd (omega (arith, e))) (λ e. numberless r refl) is.2
+
+-- and where no key of a map is looked up
+pub none_looked_up : (bytes : Bor (List ℕ)) (pos : ℕ) → HasValue node_shape KnowsNode bytes.now pos → (k : ArchivedKind) (s : grammar.Step) → IsKindAt bytes pos k
+    → ((r : _) → k ≡ kind.Ordered r → IsNoKey s)
+    → ((r : _) → k ≡ kind.Hashed r → IsNoKey s)
+    → ((r : _) → k ≡ kind.Kept r → IsNoKey s)
+    → IsLookUp bytes.now pos s → ⊥
+none_looked_up bytes pos there (kind.Bool r) s is keyless tableless numberless look = let tag = tag_is bytes.now pos there is.2 in let high = look.2 in omega (arith, tag, high)
+none_looked_up bytes pos there (kind.Int r) s is keyless tableless numberless look = let tag = tag_is bytes.now pos there is.2 in let high = look.2 in omega (arith, tag, high)
+none_looked_up bytes pos there (kind.Text r) s is keyless tableless numberless look = let tag = tag_is bytes.now pos there is.2 in let high = look.2 in omega (arith, tag, high)
+none_looked_up bytes pos there (kind.Shared r) s is keyless tableless numberless look = let tag = tag_is bytes.now pos there is.2 in let high = look.2 in omega (arith, tag, high)
+none_looked_up bytes pos there (kind.Maybe r) s is keyless tableless numberless look = let tag = tag_is bytes.now pos there is.2 in let high = look.2 in omega (arith, tag, high)
+none_looked_up bytes pos there (kind.List r) s is keyless tableless numberless look = let tag = tag_is bytes.now pos there is.2 in let high = look.2 in omega (arith, tag, high)
+none_looked_up bytes pos there (kind.Ordered r) s is keyless tableless numberless look = subst IsNoKey look.1 (keyless r refl)
+none_looked_up bytes pos there (kind.Hashed r) s is keyless tableless numberless look = subst IsNoKey look.1 (tableless r refl)
+none_looked_up bytes pos there (kind.Kept r) s is keyless tableless numberless look = subst IsNoKey look.1 (numberless r refl)

@@ -1,5 +1,5 @@
 -- What the look-up of a key in a table finds, by the slots of the table's full places.
-use Rattle.std.proofs.Common.{◌≡◌, ℕ, zero, suc, ◌+◌, ◌<◌, ◌==◌, ◌&&◌, Bool, true, false, cond, List, [], ◌∷◌, filter, nat_lt, slice_index, Option, Some, None, MatchOption, refl, sym, ap, subst, ◌∙◌, arith, eqb-true, eq-eqb, ltb-true}
+use Rattle.std.proofs.Common.{◌≡◌, ℕ, zero, suc, ◌+◌, ◌<◌, ◌==◌, ◌&&◌, Bool, true, false, cond, List, [], ◌∷◌, length, filter, nat_lt, slice_index, Option, Some, None, MatchOption, refl, sym, ap, subst, ◌∙◌, arith, eqb-true, eq-eqb, ltb-true}
 use Rattle.std.specs.List.{Contains, find, flat_map, range_with_len, slice_get}
 use Rattle.std.specs.Option.{option_map}
 use Rattle.std.proofs.lemmas.Map.Text.{is_eq-slice_cmp}
@@ -7,8 +7,11 @@ use Rattle.std.proofs.lemmas.Slice.Eq.{bytes_eq-Decides}
 use Rattle.archive_shape.specs.ShapeLayout.Shape.{Shape}
 use Rattle.archive_hash_probing.specs.ShapeCanonical.FirstFit.{hash_tag}
 use Rattle.archive_hash_probing.specs.ShapeCanonical.Hash.{text_hash}
-use Rattle.archive_hash_probing.specs.ShapeCanonical.Strides.{places_shown}
+use Rattle.archive_hash_probing.specs.ShapeCanonical.Strides.{places_shown, strides}
 use Rattle.archive_hash_probing.specs.ShapeCanonical.Reach.{reach, searched}
+use Rattle.archive_hash_probing.specs.Controls.{AreControls}
+use Rattle.archive_hash_probing.specs.Search.{IsLookup}
+use Rattle.archive_hash_probing.proofs.Counts.{counted_to}
 use Rattle.archive_hash_probing.proofs.Wrapping.{wraps_of, count_of}
 use Rattle.archive_hash_walking.specs.Tables.{Buckets, full_places, item_position, IsTableAt}
 use Rattle.archive_hash_walking.specs.Tables.IsTableAt.{has_none, has_buckets}
@@ -19,6 +22,7 @@ use Rattle.archive_hash_walking.proofs.Lookups.{no_strides}
 use Rattle.cabinet_archived.specs.Documents.Order.{is_same}
 use Rattle.cabinet_archived.specs.Documents.Table.{Slot, Entry, Table, Findable, answers, found, gives, has_key, is_numbered, slot_at, tag_of}
 use Rattle.cabinet_archived.proofs.Documents.Found.{found_passes, look_up_gives}
+use Rattle.cabinet_archives.specs.Cost.{strides_to}
 use Rattle.cabinet_archives.proofs.Searched.{found_first}
 use Rattle.cabinet_archives.proofs.Tables.{slot_of, slots_of, slot_there}
 
@@ -166,3 +170,34 @@ module _ (number : ℕ → ℕ) (text : ℕ → List ℕ) (b : Buckets) (entries
             (found_first (λ p. says (item_position s b.target p) true) (λ p. says (item_position s b.target p) false) (λ p. has_key (slot_at slotted.slots p) key) b.controls (text_hash key) b.cap (hash_tag (text_hash key)) (omega (arith, fewer))
             (wraps_of b.controls b.cap are) (count_of b.controls b.cap are) low
             (λ p less full said. says_is p true less full said) (λ p less full said. says_is p false less full said) place n look)
+
+        -- ---- how many strides it searches
+
+        abbrev pub stops : List ℕ
+        stops = searched b.controls (strides (text_hash key) b.cap)
+
+        none_searched : b.cap ≡ 0 → length stops ≡ 0
+        none_searched none = ap (λ n. length (searched b.controls (strides (text_hash key) n))) none ∙ ap (λ ps. length (searched b.controls ps)) (no_strides (text_hash key))
+
+        not_found : b.cap ≡ 0 → strides_to b.cap (found slotted key) stops ≡ length stops
+        not_found none = ap (λ o. strides_to b.cap o stops) (none_found none)
+
+        module _ (apart : (at : ℕ) → says at true → says at false → ⊥) where
+          counted : 0 < b.cap → AreControls b.controls b.cap → (place : Option ℕ) (n : ℕ) → IsLookup (λ p x. says (item_position s b.target p) x) b.controls b.cap (text_hash key) place n → n ≡ strides_to b.cap place stops
+          counted some are None n look = look.0
+          counted some are (Some q) n look =
+              counted_to (λ p. says (item_position s b.target p) true) (λ p. says (item_position s b.target p) false) b.controls (text_hash key) b.cap (hash_tag (text_hash key)) some (wraps_of b.controls b.cap are) (count_of b.controls b.cap are) q n look
+              (apart (item_position s b.target q))
+
+          pub strides_are : (bytes : List ℕ) (pos : ℕ) → IsTableAt bytes s pos b → (o : Option ℕ) (n : ℕ) → LooksUp says s b (text_hash key) o n → n ≡ strides_to b.cap (found slotted key) stops
+          strides_are bytes pos table o n (has_no_places none is few) = few ∙ sym (not_found none ∙ none_searched none)
+          strides_are bytes pos (has_none word is) o n (has_places None e look) = look.0 ∙ sym (not_found (ap (λ (x : Buckets). x.cap) is))
+          strides_are bytes pos (has_none word is) o n (has_places (Some q) e look) =
+              let none = none_looked_up says s (text_hash key) n o (subst (λ x. LooksUp says s x (text_hash key) o n) is (has_places (Some q) e look)) in
+              absurd (cc)
+          strides_are bytes pos (has_buckets some leads places fewer controls within room are count) o n (has_places place e look) =
+              counted (omega (arith, fewer)) are place n look
+              ∙ ap (λ x. strides_to b.cap x stops)
+              (found_first (λ p. says (item_position s b.target p) true) (λ p. says (item_position s b.target p) false) (λ p. has_key (slot_at slotted.slots p) key) b.controls (text_hash key) b.cap (hash_tag (text_hash key)) (omega (arith, fewer))
+              (wraps_of b.controls b.cap are) (count_of b.controls b.cap are) low
+              (λ p less full said. says_is p true less full said) (λ p less full said. says_is p false less full said) place n look)

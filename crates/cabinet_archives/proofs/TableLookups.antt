@@ -6,11 +6,14 @@ use Rattle.archive_shape.specs.ShapeLayout.Bytes.{align_up}
 use Rattle.archive_shape.specs.ShapeLayout.Shape.{size_of}
 use Rattle.archive_hash_probing.specs.ShapeCanonical.FirstFit.{hash_tag}
 use Rattle.archive_hash_probing.specs.ShapeCanonical.Hash.{text_hash}
+use Rattle.archive_hash_probing.specs.ShapeCanonical.Reach.{searched}
+use Rattle.archive_hash_probing.specs.ShapeCanonical.Strides.{strides}
 use Rattle.archive_hash_walking.specs.Tables.{Buckets, full_places, item_position, IsTableAt}
 use Rattle.archive_hash_walking.specs.Places.{LooksUp}
 use Rattle.cabinet_archived.specs.Documents.Node.{pair_shape}
 use Rattle.cabinet_archived.specs.Documents.Order.{is_same}
 use Rattle.cabinet_archived.specs.Documents.Table.{Slot, Table, Findable, entry_of, found, gives, is_numbered}
+use Rattle.cabinet_archives.specs.Cost.{strides_to}
 use Rattle.cabinet_archives.specs.Keyed.{SaysKey}
 use Rattle.cabinet_archives.proofs.SlotLookups as slots
 use Rattle.cabinet_archives.proofs.SlotLookups.{full_low}
@@ -20,6 +23,13 @@ use Rattle.cabinet_archives.proofs.Texts.{text_at, text_is}
 pub pair_size : size_of pair_shape ≡ 32
 unfolding align_up
 pair_size = refl
+
+-- a text is a key or is not
+pub said_apart : (bytes key : List ℕ) (at : ℕ) → SaysKey bytes key at true → SaysKey bytes key at false → ⊥
+said_apart bytes key at one other =
+    let same : one.0 ≡ other.0 = text_is bytes at one.0 one.1 ∙ sym (text_is bytes at other.0 other.1) in
+    let both : true ≡ false = one.2 ∙ (ap (λ t. is_same t key) same ∙ sym other.2) in
+    cc
 
 module _ (bytes : List ℕ) (b : Buckets) where
   abbrev pub pair_at : ℕ → ℕ
@@ -59,6 +69,14 @@ module _ (bytes : List ℕ) (b : Buckets) where
         slots.search_is (λ p. p) text_of b text_table.entries key low pair_shape (SaysKey bytes key)
         (λ p x less full says. says.2 ∙ ap (λ k. is_same k key) (text_is bytes (pair_at p) says.0 says.1))
         bytes pos table o n look
+
+    -- how many strides it searches
+    pub strides_are : hash_tag (text_hash key) < 128 → (pos : ℕ) → IsTableAt bytes pair_shape pos b → (o : Option ℕ) (n : ℕ) → LooksUp (SaysKey bytes key) pair_shape b (text_hash key) o n
+        → n ≡ strides_to b.cap (found text_table key) (searched b.controls (strides (text_hash key) b.cap))
+    strides_are low pos table o n look =
+        slots.strides_are (λ p. p) text_of b text_table.entries key low pair_shape (SaysKey bytes key)
+        (λ p x less full says. says.2 ∙ ap (λ k. is_same k key) (text_is bytes (pair_at p) says.0 says.1))
+        (said_apart bytes key) bytes pos table o n look
 
     -- ---- whether what a search finds is a place's pair
 

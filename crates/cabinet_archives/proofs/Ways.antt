@@ -30,6 +30,15 @@ pub matched : {A P R : Type 0} (Q S : A → Type 0) (o : Option A) → (P → R)
 matched Q S None f g h = f h
 matched Q S (Some x) f g h = g x h
 
+-- what it is of an option that is known
+pub of_none : {A P : Type 0} (Q : A → Type 0) (o : Option A) → o ≡ None → MatchOption o P Q → P
+of_none Q None e h = h
+of_none Q (Some x) e h = absurd (cc)
+
+pub of_some : {A : Type 0} (P : Type 0) (Q : A → Type 0) (o : Option A) (x : A) → o ≡ Some x → MatchOption o P Q → Q x
+of_some P Q None x e h = absurd (cc)
+of_some P Q (Some y) x e h = let same : y ≡ x = cc in subst Q same h
+
 -- ---- paths, one after the other
 
 one_step : {bytes : List ℕ} {from to : ℕ} {s : Step} → StepsTo bytes from s to → GoesTo bytes from (s ∷ []) to

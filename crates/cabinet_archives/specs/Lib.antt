@@ -1,3 +1,4 @@
+pub mod Cost
 pub mod Failing
 pub mod Found
 pub mod Hashed

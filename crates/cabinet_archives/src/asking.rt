@@ -2,9 +2,11 @@
 
 mod heads;
 mod keys;
+mod location;
 mod question;
 mod walk;
 
 pub use heads::head;
+pub use location::locate;
 pub use question::ask;
-pub use walk::find;
+pub use walk::{find, find_counted};

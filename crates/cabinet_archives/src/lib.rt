@@ -8,7 +8,7 @@ mod opening;
 mod saving;
 mod setting;
 
-pub use asking::{ask, find, head};
+pub use asking::{ask, find, find_counted, head, locate};
 pub use loading::load;
 pub use opening::{OpenRefusal, check, check_scanned};
 pub use saving::{SaveRefusal, save, to_bytes};

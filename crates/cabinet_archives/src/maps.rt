@@ -5,6 +5,6 @@ mod kept;
 mod ordered;
 mod pairs;
 
-pub(crate) use hashed::{HashedMap, get as get_hashed, hashed_sound};
-pub(crate) use kept::{KeptMap, get as get_kept, kept_sound};
-pub(crate) use ordered::{OrderedMap, get as get_ordered, keys_ascend};
+pub(crate) use hashed::{HashedMap, get_counted as get_hashed, hashed_sound};
+pub(crate) use kept::{KeptMap, get_counted as get_kept, kept_sound};
+pub(crate) use ordered::{OrderedMap, get_counted as get_ordered, keys_ascend};

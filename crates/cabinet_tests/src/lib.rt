@@ -10,6 +10,8 @@ mod limits;
 #[cfg(test)]
 mod loading;
 #[cfg(test)]
+mod locating;
+#[cfg(test)]
 mod opening;
 #[cfg(test)]
 mod refused;

@@ -11,3 +11,4 @@ mod trees;
 pub use check::TWO_SHARED;
 pub use keyed::{FIVE_ABOVE_NONE, loose};
 pub use tables::sparse;
+pub use trees::tall;

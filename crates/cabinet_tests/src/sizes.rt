@@ -1,6 +1,7 @@
-//! Tests of maps of each size: the sizes of their archives, their documents when loaded, and an answer under each key.
+//! Tests of maps of each size: the sizes of their archives, their documents when loaded, and under each key an answer and
+//! what its look-up takes.
 use crate::loading::text_of;
-use cabinet::{Document, Line, Node, Opened, Step, open, to_bytes};
+use cabinet::{Document, Kind, Line, Node, Opened, Step, open, to_bytes};
 use std::alloc::Global;
 use std::collections::BTreeMap;
 use std::test::Fail;
@@ -29,7 +30,8 @@ fn maps_of(alloc: Global, count: i64) -> Result<[Node; 3], Fail> {
     ])
 }
 
-/// Returns whether a question under each of the decimal texts of the numbers below `count` is answered by the number.
+/// Returns whether a question under each of the decimal texts of the numbers below `count` is answered by the number, and
+/// its look-up takes at most 160 comparisons and a stride for each sixteen of 246 places.
 fn answers_each(alloc: Global, opened: &Opened<'_>, count: i64) -> Result<bool, Fail> {
     let mut answers = Vec::new(alloc);
     let mut wanted = Vec::new(alloc);
@@ -39,6 +41,10 @@ fn answers_each(alloc: Global, opened: &Opened<'_>, count: i64) -> Result<bool, 
         wanted.extend_from_slice(text.as_bytes())?;
         wanted.push(b'\n')?;
         let path = vec![in alloc; Step::Key(text)]?;
+        let (kind, steps) = opened.locate(&path);
+        if kind != Some(Kind::Int) || steps.comparisons > 160 || steps.strides > 16 {
+            return Ok(false);
+        }
         opened.ask(&Line::Get(path), &mut answers)?;
     }
     Ok(answers.as_slice() == wanted.as_slice())
@@ -78,5 +84,22 @@ fn maps_of_each_size_are_saved_loaded_and_answer(rt: HostRuntime) -> Result<(), 
             assert_eq!(rt; size_of(rt.alloc(), map, count)?, size, "{count} keys");
         }
     }
+    Ok(())
+}
+
+/// Returns how many keys a look-up of the decimal text of a number compares in the ordered map of 215 keys.
+fn compared(alloc: Global, number: i64) -> Result<usize, Fail> {
+    let [ordered, _, _] = maps_of(alloc, 215)?;
+    let mut archive = to_bytes(alloc, &Document::new(ordered)?)?;
+    let opened = open(alloc, archive.as_mut_slice()).map_err(|_| "refused")?;
+    let path = [Step::Key(decimal(alloc, number)?)];
+    let (_, steps) = opened.locate(&path);
+    Ok(steps.comparisons)
+}
+
+#[test]
+fn keys_of_a_map_of_215_are_compared_from_the_root_down(rt: HostRuntime) -> Result<(), Fail> {
+    assert!(rt; compared(rt.alloc(), 0)? == 3);
+    assert!(rt; compared(rt.alloc(), 99)? == 15);
     Ok(())
 }

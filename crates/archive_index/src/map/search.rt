@@ -24,19 +24,20 @@ fn named_entry<K: Portable, V: Portable>(bytes: &[u8], start: usize, at: usize) 
     start + number_at(bytes, at) * Entry::<K, V>::SIZE
 }
 
-/// Returns the number of an entry that has the hash `hash` in the map at `pos`. `accepts` returns whether the entry at a
-/// position is the one searched for. The caller chooses the scan `G`, by which the table is searched.
+/// Returns the number of an entry that has the hash `hash` in the map at `pos`, and the number of strides that were
+/// searched for it. `accepts` returns whether the entry at a position is the one searched for. The caller chooses the scan
+/// `G`, by which the table is searched.
 pub fn search_entries<K: Portable, V: Portable, G: Scan, F: Fn(usize) -> bool>(
     bytes: &[u8],
     pos: usize,
     hash: u64,
     accepts: &F,
-) -> Option<usize>
+) -> (Option<usize>, usize)
     requires has { HasMapAt K.shape V.shape K.knows V.knows bytes.now pos }
     requires callable { (m : IndexMap) → IsMapAt bytes.now K.shape V.shape pos m → (i : ℕ) → i < count_of m → F.pre accepts.now (entry_position K.shape V.shape m i) }
-    ensures within { (m : IndexMap) → IsMapAt bytes.entry.now K.shape V.shape pos m → IfSome result (λ i. i < count_of m) }
+    ensures within { (m : IndexMap) → IsMapAt bytes.entry.now K.shape V.shape pos m → IfSome result.0 (λ i. i < count_of m) }
     ensures answers { (m : IndexMap) → IsMapAt bytes.entry.now K.shape V.shape pos m
-        → (strides : ℕ) × AnswersEntry bytes.entry.now K.shape V.shape m (F.post accepts.now) (λ i. i) hash result strides }
+        → AnswersEntry bytes.entry.now K.shape V.shape m (F.post accepts.now) (λ i. i) hash result.0 result.1 }
 {
     let (start, _) = entries_at::<K, V>(bytes, pos);
     let accepts_at = |at: usize| -> bool
@@ -45,9 +46,10 @@ pub fn search_entries<K: Portable, V: Portable, G: Scan, F: Fn(usize) -> bool>(
         requires item { F.pre accepts.now (start + word_at bytes.now at * size_of (tuple2 K.shape V.shape)) }
         ensures { F.post accepts.entry.now (start + word_at bytes.entry.now at * size_of (tuple2 K.shape V.shape)) result }
     { accepts(named_entry::<K, V>(bytes, start, at)) };
-    match search_table::<ArchivedU32, G, _>(bytes, pos, hash, &accepts_at).0 {
-        Some(at) => Some(number_at(bytes, at)),
-        None => None,
+    let (found, strides) = search_table::<ArchivedU32, G, _>(bytes, pos, hash, &accepts_at);
+    match found {
+        Some(at) => (Some(number_at(bytes, at)), strides),
+        None => (None, strides),
     }
 }
 
@@ -66,7 +68,7 @@ pub(crate) fn search_key<Q: Hash, K: HashedKey<Q>, V: Portable, H: Hasher + Defa
         requires { K.is_key bytes.now at }
         ensures { KeySays K.key_of K.order bytes.entry.now query.entry.now at result }
     { K::same(&Ref::new(bytes, at), query) };
-    search_entries::<K, V, Group, _>(bytes, pos, hash_value::<Q, H>(query), &accepts)
+    search_entries::<K, V, Group, _>(bytes, pos, hash_value::<Q, H>(query), &accepts).0
 }
 
 /// Returns the number of the entry that has the query's hash and whose key the caller's comparison accepts, in the map
@@ -89,7 +91,7 @@ pub(crate) fn search_with<
         requires { F.pre accepts.now query (key_at bytes at) }
         ensures { F.post accepts.entry.now query.entry (key_at bytes.entry at) result }
     { accepts(query, Ref::new(bytes, at)) };
-    search_entries::<K, V, Group, _>(bytes, pos, hash, &accepts_at)
+    search_entries::<K, V, Group, _>(bytes, pos, hash, &accepts_at).0
 }
 
 /// Returns the position of the entry with a number.

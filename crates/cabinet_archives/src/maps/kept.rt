@@ -12,6 +12,7 @@ ghost use Rattle.cabinet_archived.specs.Documents.Table.{kept_at, table_of};
 ghost use Rattle.cabinet_archived.specs.Documents.Walk.{Stop, Walks};
 ghost use Rattle.cabinet_archived.specs.Index.Lookups.{AnswersEntry, pair_of};
 ghost use Rattle.cabinet_archived.specs.Index.Maps.{count_of, entry_position};
+ghost use Rattle.cabinet_archives.specs.Cost.{Searches};
 ghost use Rattle.cabinet_archives.specs.Kept.{HasNumbered, OfKept, index_shape, kept_search_faults, kept_tag_faults};
 ghost use Rattle.cabinet_archives.specs.Keyed.{KeyLeads, KeyLeadsNowhere, OfMap, SaysKey, knows_pairs};
 ghost use Rattle.cabinet_archives.specs.Sound.{IsSoundPart, Reports};
@@ -22,7 +23,7 @@ use archive_forms_values::ArchivedString;
 use archive_hash_maps::ArchivedHashTable;
 use archive_hash_probing::{FxHasher64, Scan, hash_text, tag_of};
 use archive_hash_walking::number_at;
-use archive_shape::Ref;
+use archive_shape::{Ref, Steps};
 use cabinet_archived::ArchivedNode;
 use cabinet_archived::index::{ArchivedIndexMap, search_entries};
 
@@ -51,13 +52,14 @@ fn key_of<'a>(map: Ref<'a, KeptMap>, index: usize) -> &'a str
     ArchivedString::as_str(key)
 }
 
-/// Returns the number of the first entry with a key that a search for the key's hash visits.
-fn search<G: Scan>(map: Ref<'_, KeptMap>, hash: u64, key: &str) -> Option<usize>
+/// Returns the number of the first entry with a key that a search for the key's hash visits, and how many strides were
+/// searched for it.
+fn search<G: Scan>(map: Ref<'_, KeptMap>, hash: u64, key: &str) -> (Option<usize>, usize)
     requires has { HasValue index_shape knows_pairs map.bytes.now map.pos }
     requires hash { hash ≡ text_hash key.now }
-    ensures within { OfKept map.entry.bytes.now map.entry.pos (λ m. IfSome result (λ i. i < count_of m)) }
-    ensures answers { OfKept map.entry.bytes.now map.entry.pos (λ m. (strides : ℕ)
-        × AnswersEntry map.entry.bytes.now text node_shape m (SaysKey map.entry.bytes.now key.now) (λ i. i) hash result strides) }
+    ensures within { OfKept map.entry.bytes.now map.entry.pos (λ m. IfSome result.0 (λ i. i < count_of m)) }
+    ensures answers { OfKept map.entry.bytes.now map.entry.pos (λ m.
+        AnswersEntry map.entry.bytes.now text node_shape m (SaysKey map.entry.bytes.now key.now) (λ i. i) hash result.0 result.1) }
 {
     let bytes = map.bytes;
     let accepts = |at: usize| -> bool
@@ -93,7 +95,7 @@ fn keys_found<G: Scan>(map: Ref<'_, KeptMap>) -> Result<(), OpenRefusal>
 {
     for index in 0..KeptMap::len(map) {
         let key = key_of(map, index);
-        if !is_found_at(search::<G>(map, hash_text(key), key), index) {
+        if !is_found_at(search::<G>(map, hash_text(key), key).0, index) {
             return Err(OpenRefusal::NotFound);
         }
     }
@@ -111,22 +113,33 @@ pub(crate) fn kept_sound<G: Scan>(map: Ref<'_, KeptMap>) -> Result<(), OpenRefus
     keys_found::<G>(map)
 }
 
-/// Returns the node of a key, if the map has the key. Reads only the controls that a search for the key's hash visits and
-/// the entries under its tag.
-pub(crate) fn get<'a, G: Scan>(map: Ref<'a, KeptMap>, key: &str) -> Option<Ref<'a, ArchivedNode>>
+/// Returns the node of a key, if the map has the key, and how many strides were searched for it. Reads only the controls
+/// that a search for the key's hash visits and the entries under its tag.
+pub(crate) fn get_counted<'a, G: Scan>(
+    map: Ref<'a, KeptMap>,
+    key: &str,
+) -> (Option<Ref<'a, ArchivedNode>>, Steps)
     requires has { HasValue index_shape knows_pairs map.bytes.now map.pos }
     requires sound { IsSoundPart map.bytes.now (at map.pos index_shape) }
-    ensures leads { OfMap index_shape map.entry.bytes.now map.entry.pos (λ v. MatchOption result
+    ensures leads { OfMap index_shape map.entry.bytes.now map.entry.pos (λ v. MatchOption result.0
         (KeyLeadsNowhere v key.now)
         (λ node. (node.bytes ≡ map.entry.bytes) × KeyLeads map.entry.bytes.now v key.now node.pos)) }
-    ensures way { IfSome result (λ node. HasNumbered map.entry.bytes.now map.entry.pos key.now node.pos) }
-    ensures sound { IfSome result (λ node. IsSoundPart map.entry.bytes.now (at node.pos node_shape)) }
+    ensures way { IfSome result.0 (λ node. HasNumbered map.entry.bytes.now map.entry.pos key.now node.pos) }
+    ensures sound { IfSome result.0 (λ node. IsSoundPart map.entry.bytes.now (at node.pos node_shape)) }
+    ensures compares { result.1.comparisons ≡ 0 }
+    ensures searches { OfMap index_shape map.entry.bytes.now map.entry.pos (λ v.
+        Searches (table_of kept_at map.entry.bytes.now map.entry.pos v) key.now result.1.strides) }
 {
-    match search::<G>(map, hash_text(key), key) {
+    let (found, strides) = search::<G>(map, hash_text(key), key);
+    let steps = Steps {
+        comparisons: 0,
+        strides,
+    };
+    match found {
         Some(index) => {
             let (_, node) = entry_of(map, index);
-            Some(node)
+            (Some(node), steps)
         }
-        None => None,
+        None => (None, steps),
     }
 }

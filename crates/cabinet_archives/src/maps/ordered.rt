@@ -9,13 +9,14 @@ ghost use Rattle.cabinet_archived.specs.Documents.Node.{node_names, node_shape};
 ghost use Rattle.cabinet_archived.specs.Documents.Order.{ascend, is_below};
 ghost use Rattle.cabinet_archived.specs.Documents.Table.{item_keys};
 ghost use Rattle.cabinet_archived.specs.Documents.Walk.{Stop, Walks};
+ghost use Rattle.cabinet_archives.specs.Cost.{Compares};
 ghost use Rattle.cabinet_archives.specs.Keyed.{KeyLeads, KeyLeadsNowhere, OfMap, knows_pairs};
 ghost use Rattle.cabinet_archives.specs.Ordered.{HasEntry, map_shape};
 ghost use Rattle.cabinet_archives.specs.Sound.{IsSoundPart};
 
 use archive_btree_maps::ArchivedBTreeMap;
 use archive_forms_values::ArchivedString;
-use archive_shape::Ref;
+use archive_shape::{Ref, Steps};
 use cabinet_archived::ArchivedNode;
 
 /// The search tree of nodes under texts.
@@ -49,15 +50,26 @@ pub(crate) fn keys_ascend(map: Ref<'_, OrderedMap>) -> bool
     true
 }
 
-/// Returns the node of a key, if the map has the key. Reads only the tree's nodes on the way to the key.
-pub(crate) fn get<'a>(map: Ref<'a, OrderedMap>, key: &str) -> Option<Ref<'a, ArchivedNode>>
+/// Returns the node of a key, if the map has the key, and how many keys were compared for it. Reads only the tree's nodes
+/// on the way to the key.
+pub(crate) fn get_counted<'a>(
+    map: Ref<'a, OrderedMap>,
+    key: &str,
+) -> (Option<Ref<'a, ArchivedNode>>, Steps)
     requires has { HasValue map_shape knows_pairs map.bytes.now map.pos }
     requires sound { IsSoundPart map.bytes.now (at map.pos map_shape) }
-    ensures leads { OfMap map_shape map.entry.bytes.now map.entry.pos (λ v. MatchOption result
+    ensures leads { OfMap map_shape map.entry.bytes.now map.entry.pos (λ v. MatchOption result.0
         (KeyLeadsNowhere v key.now)
         (λ node. (node.bytes ≡ map.entry.bytes) × KeyLeads map.entry.bytes.now v key.now node.pos)) }
-    ensures way { IfSome result (λ node. HasEntry map.entry.bytes.now map.entry.pos key.now node.pos) }
-    ensures sound { IfSome result (λ node. IsSoundPart map.entry.bytes.now (at node.pos node_shape)) }
+    ensures way { IfSome result.0 (λ node. HasEntry map.entry.bytes.now map.entry.pos key.now node.pos) }
+    ensures sound { IfSome result.0 (λ node. IsSoundPart map.entry.bytes.now (at node.pos node_shape)) }
+    ensures compares { Compares map.entry.bytes.now map.entry.pos key.now result.1.comparisons }
+    ensures searches { result.1.strides ≡ 0 }
 {
-    OrderedMap::get(map, &key)
+    let (node, comparisons) = OrderedMap::get_counted(map, &key);
+    let steps = Steps {
+        comparisons,
+        strides: 0,
+    };
+    (node, steps)
 }

@@ -25,6 +25,9 @@ pub enum Container {
 /// The number 5.
 pub const FIVE: Made = Made::Plain(*b"\x01\0\0\0\0\0\0\0\x05\0\0\0\0\0\0\0\0\0\0\0\0\0\0\0");
 
+/// The number 0.
+pub const ZERO: Made = Made::Plain(*b"\x01\0\0\0\0\0\0\0\0\0\0\0\0\0\0\0\0\0\0\0\0\0\0\0");
+
 /// An option without a node.
 pub const NOTHING: Made = Made::Plain(*b"\x04\0\0\0\0\0\0\0\0\0\0\0\0\0\0\0\0\0\0\0\0\0\0\0");
 

@@ -1,5 +1,5 @@
 //! Tests of search trees that are accepted or refused by their layout.
-use crate::opening::made::{FIVE, Made, push_inner, push_leaf, push_node, push_values};
+use crate::opening::made::{FIVE, Made, ZERO, push_inner, push_leaf, push_node, push_values};
 use crate::refused::changed;
 use crate::saving::COFFEE_AND_TEA;
 use archive_shape_writing::Error;
@@ -66,19 +66,31 @@ fn no_node_of_a_tree_is_claimed_twice(rt: HostRuntime) -> Result<(), AllocError>
     Ok(())
 }
 
-/// Writes an inner node with five keys of two chars, numbered from `first` on, and the number 5 under each, whose one child
-/// is the node before it, if there is one.
-fn push_above(bytes: &mut Vec<u8>, first: u8) -> Result<(), AllocError> {
+/// Returns the digit of a number at the place of this unit, which is 1, 10 or 100, as a char.
+fn digit(number: u32, unit: u32) -> u8 {
+    match u8::try_from(number / unit.max(1) % 10) {
+        Ok(digit) => b'0'.saturating_add(digit),
+        Err(_) => b'0',
+    }
+}
+
+/// Writes a key of three digits.
+fn push_number_key(bytes: &mut Vec<u8>, number: u32) -> Result<(), AllocError> {
+    let digits = [digit(number, 100), digit(number, 10), digit(number, 1)];
+    bytes.extend_from_slice(&digits)?;
+    bytes.extend_from_slice(&[0xff; 5])
+}
+
+/// Writes an inner node with five keys from `first` on and the number 0 under each, whose one child is the node before it,
+/// if there is one.
+fn push_above(bytes: &mut Vec<u8>, first: u32) -> Result<(), AllocError> {
     let is_last = bytes.is_empty();
     bytes.extend_from_slice(&[1, 0, 0, 0])?;
-    for place in 0..5u8 {
-        let key = first.saturating_add(place);
-        let chars = [b'0'.saturating_add(key / 16), b'0'.saturating_add(key % 16)];
-        bytes.extend_from_slice(&chars)?;
-        bytes.extend_from_slice(&[0xff; 6])?;
+    for number in 0..5u32 {
+        push_number_key(bytes, first.saturating_add(number))?;
     }
     bytes.extend_from_slice(&[0; 4])?;
-    push_values(bytes, &[FIVE; 5])?;
+    push_values(bytes, &[ZERO; 5])?;
     for _ in 0..5 {
         bytes.extend_from_slice(&[1, 0, 0, 0])?;
     }
@@ -91,10 +103,10 @@ fn push_above(bytes: &mut Vec<u8>, first: u8) -> Result<(), AllocError> {
 }
 
 /// Returns the map of five keys on each of so many levels, of which each is after those of the level above it.
-fn tall(alloc: Global, levels: u8) -> Result<Vec<u8>, AllocError> {
+pub fn tall(alloc: Global, levels: u8) -> Result<Vec<u8>, AllocError> {
     let mut bytes = Vec::new(alloc);
     for above in (0..levels).rev() {
-        push_above(&mut bytes, above.saturating_mul(5))?;
+        push_above(&mut bytes, u32::from(above).saturating_mul(5))?;
     }
     let root = bytes.len().saturating_sub(192);
     push_node(&mut bytes, Made::Map(root, levels.saturating_mul(5)))?;

@@ -14,11 +14,11 @@ use Rattle.archive_forms_writing.specs.FormsLaws.Sample.{number_shape}
 use Rattle.archive_index.proofs.Standing.{map_of, has_table, NamesEntry, numbers_name}
 use Rattle.archive_index.proofs.map.search.search_entries.Goals as goal
 
-pub search_table-requires-clause-has : goal.search_table-requires-clause-has
-search_table-requires-clause-has g c = has_table g.K.Portable.shape g.V.Portable.shape g.K.Portable.knows g.V.Portable.knows c.args.bytes.now c.args.pos c.requires.has
+pub search_table-found-requires-clause-has : goal.search_table-found-requires-clause-has
+search_table-found-requires-clause-has g c = has_table g.K.Portable.shape g.V.Portable.shape g.K.Portable.knows g.V.Portable.knows c.args.bytes.now c.args.pos c.requires.has
 
-pub search_table-requires-clause-callable : goal.search_table-requires-clause-callable
-search_table-requires-clause-callable g c b is i d below =
+pub search_table-found-requires-clause-callable : goal.search_table-found-requires-clause-callable
+search_table-found-requires-clause-callable g c b is i d below =
     let k = g.K.Portable.shape in
     let v = g.V.Portable.shape in
     let bytes = c.args.bytes.now in
@@ -38,41 +38,37 @@ search_table-requires-clause-callable g c b is i d below =
 pub number_at-requires : goal.number_at-requires
 number_at-requires g c =
     let h = has_table g.K.Portable.shape g.V.Portable.shape g.K.Portable.knows g.V.Portable.knows c.args.bytes.now c.args.pos c.requires.has in
-    let there = some_item (HasValue number_shape KnowsAll c.args.bytes.now) c.search_table.result.0 c.in-Some.at (found_there number_shape KnowsAll c.args.bytes.now c.args.pos (λ p x. goal.F-post g c.args.accepts.now (c.entries_at-start.result.0 + word_at c.args.bytes.now p * size_of (tuple2 g.K.Portable.shape g.V.Portable.shape)) x) h c.search_table.result.0 c.search_table.ensures.accepted) c.in-Some.is in
+    let there = some_item (HasValue number_shape KnowsAll c.args.bytes.now) c.search_table-found.result.0 c.in-Some.at (found_there number_shape KnowsAll c.args.bytes.now c.args.pos (λ p x. goal.F-post g c.args.accepts.now (c.entries_at-start.result.0 + word_at c.args.bytes.now p * size_of (tuple2 g.K.Portable.shape g.V.Portable.shape)) x) h c.search_table-found.result.0 c.search_table-found.ensures.accepted) c.in-Some.is in
     there.held.own_within
 
 pub returns-in-Some-clause-answers : goal.returns-in-Some-clause-answers
 returns-in-Some-clause-answers g c m at =
     let bytes = c.args.bytes.now in
     let size = size_of (tuple2 g.K.Portable.shape g.V.Portable.shape) in
-    let f = c.search_table.ensures in
-    let start = (c.entries_at-start.ensures.map m at).0 in (
-      c.search_table.result.1,
-      subst (λ a. Answers (λ p x. goal.F-post g c.args.accepts.now (a + word_at bytes p * size) x) (λ p. word_at bytes p) number_shape m.buckets c.args.hash (Some c.number_at.result) c.search_table.result.1) start
-          (record {
-            position = c.search_table.result.0;
-            is = ap Some c.number_at.ensures.value ∙ sym (ap (option_map (word_at bytes)) c.in-Some.is);
-            looks_up = f.answers m.buckets at.table;
-            accepted = f.accepted m.buckets at.table;
-            only = f.findable m.buckets at.table;
-            few = f.few m.buckets at.table;
-          }),
-    )
+    let f = c.search_table-found.ensures in
+    let start = (c.entries_at-start.ensures.map m at).0 in
+    subst (λ a. Answers (λ p x. goal.F-post g c.args.accepts.now (a + word_at bytes p * size) x) (λ p. word_at bytes p) number_shape m.buckets c.args.hash (Some c.number_at.result) c.search_table-found.result.1) start
+    (record {
+      position = c.search_table-found.result.0;
+      is = ap Some c.number_at.ensures.value ∙ sym (ap (option_map (word_at bytes)) c.in-Some.is);
+      looks_up = f.answers m.buckets at.table;
+      accepted = f.accepted m.buckets at.table;
+      only = f.findable m.buckets at.table;
+      few = f.few m.buckets at.table;
+    })
 
 pub returns-in-None-clause-answers : goal.returns-in-None-clause-answers
 returns-in-None-clause-answers g c m at =
     let bytes = c.args.bytes.now in
     let size = size_of (tuple2 g.K.Portable.shape g.V.Portable.shape) in
-    let f = c.search_table.ensures in
-    let start = (c.entries_at-start.ensures.map m at).0 in (
-      c.search_table.result.1,
-      subst (λ a. Answers (λ p x. goal.F-post g c.args.accepts.now (a + word_at bytes p * size) x) (λ p. word_at bytes p) number_shape m.buckets c.args.hash None c.search_table.result.1) start
-          (record {
-            position = c.search_table.result.0;
-            is = sym (ap (option_map (word_at bytes)) c.in-None.is);
-            looks_up = f.answers m.buckets at.table;
-            accepted = f.accepted m.buckets at.table;
-            only = f.findable m.buckets at.table;
-            few = f.few m.buckets at.table;
-          }),
-    )
+    let f = c.search_table-found.ensures in
+    let start = (c.entries_at-start.ensures.map m at).0 in
+    subst (λ a. Answers (λ p x. goal.F-post g c.args.accepts.now (a + word_at bytes p * size) x) (λ p. word_at bytes p) number_shape m.buckets c.args.hash None c.search_table-found.result.1) start
+    (record {
+      position = c.search_table-found.result.0;
+      is = sym (ap (option_map (word_at bytes)) c.in-None.is);
+      looks_up = f.answers m.buckets at.table;
+      accepted = f.accepted m.buckets at.table;
+      only = f.findable m.buckets at.table;
+      few = f.few m.buckets at.table;
+    })

@@ -4,3 +4,6 @@ use Rattle.archive_index.proofs.map.search.search_with.Goals as goal
 pub search_entries-requires-clause-callable : goal.search_entries-requires-clause-callable
 search_entries-requires-clause-callable g c m at i less =
     c.requires.callable _ (entry_key g.K.Portable.shape g.V.Portable.shape g.K.Portable.knows g.V.Portable.knows c.args.bytes.now c.args.pos c.requires.has m at i less)
+
+pub returns-clause-answers : goal.returns-clause-answers
+returns-clause-answers g c m at = record { hash = c.hash_value-hash.result; strides = c.search_entries.result.1; is_hash = c.hash_value-hash.ensures; answers = c.search_entries.ensures.answers m at }

@@ -1,4 +1,4 @@
-use Rattle.std.proofs.Common.{◌≡◌, ap, sym, subst, ◌∙◌, arith, Bor, List, ℕ, MatchOption}
+use Rattle.std.proofs.Common.{◌≡◌, refl, ap, sym, subst, ◌∙◌, arith, Bor, List, ℕ, MatchOption}
 use Rattle.std.specs.Prelude.{IfSome}
 use Rattle.archive_shape.specs.ShapeLayout.Content.Part.{at}
 use Rattle.archive_forms_values.specs.Parts.{HasValue, IsNoneAt, IsSomeAt, IsBoxAt, IsVecAt}
@@ -15,38 +15,49 @@ use Rattle.cabinet_archives.proofs.Ways.{Boxed, matched, empty_none, content_the
 use Rattle.cabinet_archives.proofs.Tags.{tag_is}
 use Rattle.std.proofs.Math.Logic.{∥∥₁_map}
 use Rattle.cabinet_archives.proofs.Soundness.{payload_sound}
-use Rattle.cabinet_archives.proofs.NoSteps.{not_inside, no_place, no_key, no_step}
+use Rattle.cabinet_archives.specs.Cost.{no_look_up}
+use Rattle.cabinet_archives.proofs.Costs.{inside_takes, place_takes, ordered_takes, hashed_takes, kept_takes}
+use Rattle.cabinet_archives.proofs.NoSteps.{not_inside, no_place, no_key, no_step, none_looked_up}
 use Rattle.cabinet_archives.proofs.asking.walk.step_down.Goals.{in_default-via-in-Maybe+in_default, in_default-via-in-List+in_default, in_default-via-in-Ordered+in_default, in_default-via-in-Hashed+in_default, in_default-via-in-Kept+in_default, in_default-via-in_default}
 use Rattle.cabinet_archives.proofs.asking.walk.step_down.Goals as goal
 
-pub returns-in_err-content-in-Maybe-Inside : goal.returns-in_err-content-in-Maybe-Inside
-returns-in_err-content-in-Maybe-Inside g c =
+pub returns-in-None-clause-next : goal.returns-in-None-clause-next
+returns-in-None-clause-next g c =
     let is = c.in-Maybe-Inside.ensures in
-    let none = subst (λ (b : Bor (List ℕ)). IsNoneAt Boxed KnowsNode b.now c.in-Maybe-Inside.maybe.pos) is.0 c.in_err-content-in-Maybe-Inside.ensures in
-    rw c.from_residual.ensures (empty_none c.args.node.bytes.now c.args.node.pos c.in-Maybe-Inside.maybe.pos is.2 (step_of c.args.step.now) none)
+    let none = subst (λ (b : Bor (List ℕ)). IsNoneAt Boxed KnowsNode b.now c.in-Maybe-Inside.maybe.pos) is.0 c.in-None.ensures in
+    empty_none c.args.node.bytes.now c.args.node.pos c.in-Maybe-Inside.maybe.pos is.2 (step_of c.args.step.now) none
+
+pub returns-in-None-clause-takes : goal.returns-in-None-clause-takes
+returns-in-None-clause-takes g c = inside_takes c.args.node.bytes.now c.args.node.pos (step_of c.args.step.now) (ap step_of c.in-Maybe-Inside.is-1)
 
 pub get-requires : goal.get-requires
 get-requires g c =
     let is = c.in-Maybe-Inside.ensures in
-    let content = c.in_ok-content-in-Maybe-Inside.content in
-    let says = c.in_ok-content-in-Maybe-Inside.ensures in
+    let content = c.in-Some.content in
+    let says = c.in-Some.ensures in
     let some = subst (λ (b : Bor (List ℕ)). IsSomeAt Boxed KnowsNode b.now c.in-Maybe-Inside.maybe.pos) is.0 says.2 in
     subst (λ (b : Bor (List ℕ)). HasValue Boxed KnowsNode b.now content.pos) (sym (says.0 ∙ is.0))
     (content_there c.args.node.bytes.now c.args.node.pos c.in-Maybe-Inside.maybe.pos is.2 content.pos says.1 some)
 
-pub returns-in_ok-content-in-Maybe-Inside : goal.returns-in_ok-content-in-Maybe-Inside
-returns-in_ok-content-in-Maybe-Inside g c =
+pub returns-in-Some-clause-next : goal.returns-in-Some-clause-next
+returns-in-Some-clause-next g c =
     let is = c.in-Maybe-Inside.ensures in
-    let content = c.in_ok-content-in-Maybe-Inside.content in
-    let says = c.in_ok-content-in-Maybe-Inside.ensures in
+    let content = c.in-Some.content in
+    let says = c.in-Some.ensures in
     let some = subst (λ (b : Bor (List ℕ)). IsSomeAt Boxed KnowsNode b.now c.in-Maybe-Inside.maybe.pos) is.0 says.2 in
     let boxed = subst (λ (b : Bor (List ℕ)). IsBoxAt node_shape KnowsNode b.now content.pos c.get.result.pos) (says.0 ∙ is.0) c.get.ensures.value in (
       c.get.ensures.bytes ∙ (says.0 ∙ is.0),
       content_reached c.args.node.bytes.now c.args.node.pos c.in-Maybe-Inside.maybe.pos is.2 c.requires.there c.requires.sound (step_of c.args.step.now) content.pos c.get.result.pos (ap step_of c.in-Maybe-Inside.is-1) is.1 says.1 some boxed,
     )
 
-pub returns-in-List-Place : goal.returns-in-List-Place
-returns-in-List-Place g c =
+pub returns-in-Some-clause-takes : goal.returns-in-Some-clause-takes
+returns-in-Some-clause-takes g c = inside_takes c.args.node.bytes.now c.args.node.pos (step_of c.args.step.now) (ap step_of c.in-Maybe-Inside.is-1)
+
+pub returns-in-List-Place-clause-takes : goal.returns-in-List-Place-clause-takes
+returns-in-List-Place-clause-takes g c = place_takes c.args.node.bytes.now c.args.node.pos (step_of c.args.step.now) c.in-List-Place.place (ap step_of c.in-List-Place.is-1)
+
+pub returns-in-List-Place-clause-next : goal.returns-in-List-Place-clause-next
+returns-in-List-Place-clause-next g c =
     let is = c.in-List-Place.ensures in
     let step_is = ap step_of c.in-List-Place.is-1 in
     let got = c.get-in-List-Place.ensures in
@@ -56,77 +67,101 @@ returns-in-List-Place g c =
     (λ next says. (says.1 ∙ is.0, element_reached c.args.node.bytes.now c.args.node.pos c.in-List-Place.list.pos is.2 got.0 got.1 elements c.requires.there c.requires.sound (step_of c.args.step.now) c.in-List-Place.place next.pos step_is is.1 says.0 says.2))
     got.3
 
-pub get-requires-in-Ordered-Key-clause-sound : goal.get-requires-in-Ordered-Key-clause-sound
-get-requires-in-Ordered-Key-clause-sound g c =
+pub get_counted-requires-clause-sound : goal.get_counted-requires-clause-sound
+get_counted-requires-clause-sound g c =
     let is = c.in-Ordered-Key.ensures in
     let map = c.in-Ordered-Key.map in
     subst (λ (b : Bor (List ℕ)). IsSoundPart b.now (at map.pos map_shape)) (sym is.0)
     (subst (λ n. IsSoundPart c.args.node.bytes.now (at n map_shape)) (sym is.1) (∥∥₁_map c.requires.sound (λ walk. payload_sound c.args.node.bytes.now c.requires.there walk (omega arith) is.2)))
 
-pub returns-in-Ordered-Key : goal.returns-in-Ordered-Key
-returns-in-Ordered-Key g c =
+pub returns-in-Ordered-Key-clause-next : goal.returns-in-Ordered-Key-clause-next
+returns-in-Ordered-Key-clause-next g c =
     let is = c.in-Ordered-Key.ensures in
     let bytes = c.args.node.bytes in
     let pos = c.args.node.pos in
     let map = c.in-Ordered-Key.map in
     let key = c.as_str.result.now in
     let step_is = ap step_of c.in-Ordered-Key.is-1 ∙ ap key_step (sym c.as_str.ensures.value) in
-    let got = c.get-in-Ordered-Key.ensures in
-    by_key bytes pos map.pos is.2 (omega arith) (step_of c.args.step.now) key step_is c.get-in-Ordered-Key.result
-    (subst (λ (b : Bor (List ℕ)). OfMap map_shape b.now map.pos (λ v. MatchOption c.get-in-Ordered-Key.result (KeyLeadsNowhere v key) (λ node. (node.bytes ≡ b) × KeyLeads b.now v key node.pos))) is.0 got.leads)
-    (found_as (λ node. HasEntry bytes.now map.pos key node.pos) (λ node. StepsTo bytes.now pos (step_of c.args.step.now) node.pos) c.get-in-Ordered-Key.result
+    let got = c.get_counted.ensures in
+    by_key bytes pos map.pos is.2 (omega arith) (step_of c.args.step.now) key step_is c.get_counted.result.0
+    (subst (λ (b : Bor (List ℕ)). OfMap map_shape b.now map.pos (λ v. MatchOption c.get_counted.result.0 (KeyLeadsNowhere v key) (λ node. (node.bytes ≡ b) × KeyLeads b.now v key node.pos))) is.0 got.leads)
+    (found_as (λ node. HasEntry bytes.now map.pos key node.pos) (λ node. StepsTo bytes.now pos (step_of c.args.step.now) node.pos) c.get_counted.result.0
     (λ node entry. steps_key step_is (tag_is bytes.now pos c.requires.there is.2) (subst (λ n. HasEntry bytes.now n key node.pos) is.1 entry))
-    (subst (λ (b : Bor (List ℕ)). IfSome c.get-in-Ordered-Key.result (λ node. HasEntry b.now map.pos key node.pos)) is.0 got.way))
-    (subst (λ (b : Bor (List ℕ)). IfSome c.get-in-Ordered-Key.result (λ node. IsSoundPart b.now (at node.pos node_shape))) is.0 got.sound)
+    (subst (λ (b : Bor (List ℕ)). IfSome c.get_counted.result.0 (λ node. HasEntry b.now map.pos key node.pos)) is.0 got.way))
+    (subst (λ (b : Bor (List ℕ)). IfSome c.get_counted.result.0 (λ node. IsSoundPart b.now (at node.pos node_shape))) is.0 got.sound)
 
-pub get-requires-in-Hashed-Key-clause-sound : goal.get-requires-in-Hashed-Key-clause-sound
-get-requires-in-Hashed-Key-clause-sound g c =
+pub get_counted-requires-in-Hashed-Key-clause-sound : goal.get_counted-requires-in-Hashed-Key-clause-sound
+get_counted-requires-in-Hashed-Key-clause-sound g c =
     let is = c.in-Hashed-Key.ensures in
     let map = c.in-Hashed-Key.map in
     subst (λ (b : Bor (List ℕ)). IsSoundPart b.now (at map.pos table_shape)) (sym is.0)
     (subst (λ n. IsSoundPart c.args.node.bytes.now (at n table_shape)) (sym is.1) (∥∥₁_map c.requires.sound (λ walk. payload_sound c.args.node.bytes.now c.requires.there walk (omega arith) is.2)))
 
-pub returns-in-Hashed-Key : goal.returns-in-Hashed-Key
-returns-in-Hashed-Key g c =
+pub returns-in-Hashed-Key-clause-next : goal.returns-in-Hashed-Key-clause-next
+returns-in-Hashed-Key-clause-next g c =
     let is = c.in-Hashed-Key.ensures in
     let bytes = c.args.node.bytes in
     let pos = c.args.node.pos in
     let map = c.in-Hashed-Key.map in
     let key = c.as_str-in-Hashed-Key.result.now in
     let step_is = ap step_of c.in-Hashed-Key.is-1 ∙ ap key_step (sym c.as_str-in-Hashed-Key.ensures.value) in
-    let got = c.get-in-Hashed-Key.ensures in
-    by_key bytes pos map.pos is.2 (omega arith) (step_of c.args.step.now) key step_is c.get-in-Hashed-Key.result
-    (subst (λ (b : Bor (List ℕ)). OfMap table_shape b.now map.pos (λ v. MatchOption c.get-in-Hashed-Key.result (KeyLeadsNowhere v key) (λ node. (node.bytes ≡ b) × KeyLeads b.now v key node.pos))) is.0 got.leads)
-    (found_as (λ node. HasBucket bytes.now map.pos key node.pos) (λ node. StepsTo bytes.now pos (step_of c.args.step.now) node.pos) c.get-in-Hashed-Key.result
+    let got = c.get_counted-in-Hashed-Key.ensures in
+    by_key bytes pos map.pos is.2 (omega arith) (step_of c.args.step.now) key step_is c.get_counted-in-Hashed-Key.result.0
+    (subst (λ (b : Bor (List ℕ)). OfMap table_shape b.now map.pos (λ v. MatchOption c.get_counted-in-Hashed-Key.result.0 (KeyLeadsNowhere v key) (λ node. (node.bytes ≡ b) × KeyLeads b.now v key node.pos))) is.0 got.leads)
+    (found_as (λ node. HasBucket bytes.now map.pos key node.pos) (λ node. StepsTo bytes.now pos (step_of c.args.step.now) node.pos) c.get_counted-in-Hashed-Key.result.0
     (λ node bucket. steps_hashed step_is (tag_is bytes.now pos c.requires.there is.2) (subst (λ n. HasBucket bytes.now n key node.pos) is.1 bucket))
-    (subst (λ (b : Bor (List ℕ)). IfSome c.get-in-Hashed-Key.result (λ node. HasBucket b.now map.pos key node.pos)) is.0 got.way))
-    (subst (λ (b : Bor (List ℕ)). IfSome c.get-in-Hashed-Key.result (λ node. IsSoundPart b.now (at node.pos node_shape))) is.0 got.sound)
+    (subst (λ (b : Bor (List ℕ)). IfSome c.get_counted-in-Hashed-Key.result.0 (λ node. HasBucket b.now map.pos key node.pos)) is.0 got.way))
+    (subst (λ (b : Bor (List ℕ)). IfSome c.get_counted-in-Hashed-Key.result.0 (λ node. IsSoundPart b.now (at node.pos node_shape))) is.0 got.sound)
 
-pub get-requires-in-Kept-Key-clause-sound : goal.get-requires-in-Kept-Key-clause-sound
-get-requires-in-Kept-Key-clause-sound g c =
+pub get_counted-requires-in-Kept-Key-clause-sound : goal.get_counted-requires-in-Kept-Key-clause-sound
+get_counted-requires-in-Kept-Key-clause-sound g c =
     let is = c.in-Kept-Key.ensures in
     let map = c.in-Kept-Key.map in
     subst (λ (b : Bor (List ℕ)). IsSoundPart b.now (at map.pos index_shape)) (sym is.0)
     (subst (λ n. IsSoundPart c.args.node.bytes.now (at n index_shape)) (sym is.1) (∥∥₁_map c.requires.sound (λ walk. payload_sound c.args.node.bytes.now c.requires.there walk (omega arith) is.2)))
 
-pub returns-in-Kept-Key : goal.returns-in-Kept-Key
-returns-in-Kept-Key g c =
+pub returns-in-Kept-Key-clause-next : goal.returns-in-Kept-Key-clause-next
+returns-in-Kept-Key-clause-next g c =
     let is = c.in-Kept-Key.ensures in
     let bytes = c.args.node.bytes in
     let pos = c.args.node.pos in
     let map = c.in-Kept-Key.map in
     let key = c.as_str-in-Kept-Key.result.now in
     let step_is = ap step_of c.in-Kept-Key.is-1 ∙ ap key_step (sym c.as_str-in-Kept-Key.ensures.value) in
-    let got = c.get-in-Kept-Key.ensures in
-    by_key bytes pos map.pos is.2 (omega arith) (step_of c.args.step.now) key step_is c.get-in-Kept-Key.result
-    (subst (λ (b : Bor (List ℕ)). OfMap index_shape b.now map.pos (λ v. MatchOption c.get-in-Kept-Key.result (KeyLeadsNowhere v key) (λ node. (node.bytes ≡ b) × KeyLeads b.now v key node.pos))) is.0 got.leads)
-    (found_as (λ node. HasNumbered bytes.now map.pos key node.pos) (λ node. StepsTo bytes.now pos (step_of c.args.step.now) node.pos) c.get-in-Kept-Key.result
+    let got = c.get_counted-in-Kept-Key.ensures in
+    by_key bytes pos map.pos is.2 (omega arith) (step_of c.args.step.now) key step_is c.get_counted-in-Kept-Key.result.0
+    (subst (λ (b : Bor (List ℕ)). OfMap index_shape b.now map.pos (λ v. MatchOption c.get_counted-in-Kept-Key.result.0 (KeyLeadsNowhere v key) (λ node. (node.bytes ≡ b) × KeyLeads b.now v key node.pos))) is.0 got.leads)
+    (found_as (λ node. HasNumbered bytes.now map.pos key node.pos) (λ node. StepsTo bytes.now pos (step_of c.args.step.now) node.pos) c.get_counted-in-Kept-Key.result.0
     (λ node numbered. steps_kept step_is (tag_is bytes.now pos c.requires.there is.2) (subst (λ n. HasNumbered bytes.now n key node.pos) is.1 numbered))
-    (subst (λ (b : Bor (List ℕ)). IfSome c.get-in-Kept-Key.result (λ node. HasNumbered b.now map.pos key node.pos)) is.0 got.way))
-    (subst (λ (b : Bor (List ℕ)). IfSome c.get-in-Kept-Key.result (λ node. IsSoundPart b.now (at node.pos node_shape))) is.0 got.sound)
+    (subst (λ (b : Bor (List ℕ)). IfSome c.get_counted-in-Kept-Key.result.0 (λ node. HasNumbered b.now map.pos key node.pos)) is.0 got.way))
+    (subst (λ (b : Bor (List ℕ)). IfSome c.get_counted-in-Kept-Key.result.0 (λ node. IsSoundPart b.now (at node.pos node_shape))) is.0 got.sound)
 
-pub returns-in_default : goal.returns-in_default
-returns-in_default g c =
+pub returns-in-Ordered-Key-clause-takes : goal.returns-in-Ordered-Key-clause-takes
+returns-in-Ordered-Key-clause-takes g c =
+    let is = c.in-Ordered-Key.ensures in
+    let map = c.in-Ordered-Key.map in
+    let step_is = ap step_of c.in-Ordered-Key.is-1 ∙ ap key_step (sym c.as_str.ensures.value) in
+    let got = c.get_counted.ensures in
+    ordered_takes c.args.node.bytes c.args.node.pos c.requires.there map.bytes map.pos is.0 is.1 (step_of c.args.step.now) c.as_str.result.now step_is c.get_counted.result.1.comparisons c.get_counted.result.1.strides is.2 got.compares got.searches
+
+pub returns-in-Hashed-Key-clause-takes : goal.returns-in-Hashed-Key-clause-takes
+returns-in-Hashed-Key-clause-takes g c =
+    let is = c.in-Hashed-Key.ensures in
+    let map = c.in-Hashed-Key.map in
+    let step_is = ap step_of c.in-Hashed-Key.is-1 ∙ ap key_step (sym c.as_str-in-Hashed-Key.ensures.value) in
+    let got = c.get_counted-in-Hashed-Key.ensures in
+    hashed_takes c.args.node.bytes c.args.node.pos c.requires.there map.bytes map.pos is.0 is.1 (step_of c.args.step.now) c.as_str-in-Hashed-Key.result.now step_is c.get_counted-in-Hashed-Key.result.1.comparisons c.get_counted-in-Hashed-Key.result.1.strides is.2 got.compares got.searches
+
+pub returns-in-Kept-Key-clause-takes : goal.returns-in-Kept-Key-clause-takes
+returns-in-Kept-Key-clause-takes g c =
+    let is = c.in-Kept-Key.ensures in
+    let map = c.in-Kept-Key.map in
+    let step_is = ap step_of c.in-Kept-Key.is-1 ∙ ap key_step (sym c.as_str-in-Kept-Key.ensures.value) in
+    let got = c.get_counted-in-Kept-Key.ensures in
+    kept_takes c.args.node.bytes c.args.node.pos c.requires.there map.bytes map.pos is.0 is.1 (step_of c.args.step.now) c.as_str-in-Kept-Key.result.now step_is c.get_counted-in-Kept-Key.result.1.comparisons c.get_counted-in-Kept-Key.result.1.strides is.2 got.compares got.searches
+
+pub returns-in_default-clause-next : goal.returns-in_default-clause-next
+returns-in_default-clause-next g c =
     let none = no_step c.args.node.bytes c.args.node.pos c.kind.result (step_of c.args.step.now) c.kind.ensures in
     elim c.in_default.branch [
       | in_default-via-in-Maybe+in_default w ↦
@@ -142,3 +177,21 @@ returns-in_default g c =
       | in_default-via-in_default w ↦
           none (λ r e. absurd (w.in_default.not-Maybe-0 r e)) (λ r e. absurd (w.in_default.not-List-0 r e)) (λ r e. absurd (w.in_default.not-Ordered-0 r e)) (λ r e. absurd (w.in_default.not-Hashed-0 r e)) (λ r e. absurd (w.in_default.not-Kept-0 r e))
     ]
+
+pub returns-in_default-clause-takes : goal.returns-in_default-clause-takes
+returns-in_default-clause-takes g c = no_look_up (λ look.
+    let none = none_looked_up c.args.node.bytes c.args.node.pos c.requires.there c.kind.result (step_of c.args.step.now) c.kind.ensures in
+    elim c.in_default.branch [
+      | in_default-via-in-Maybe+in_default w ↦
+          none (λ r e. let is = w.in_default.is-0 in absurd (cc)) (λ r e. let is = w.in_default.is-0 in absurd (cc)) (λ r e. let is = w.in_default.is-0 in absurd (cc)) look
+      | in_default-via-in-List+in_default w ↦
+          none (λ r e. let is = w.in_default.is-0 in absurd (cc)) (λ r e. let is = w.in_default.is-0 in absurd (cc)) (λ r e. let is = w.in_default.is-0 in absurd (cc)) look
+      | in_default-via-in-Ordered+in_default w ↦
+          none (λ r e. no_key c.args.step.now w.in_default.not-Key-1) (λ r e. let is = w.in_default.is-0 in absurd (cc)) (λ r e. let is = w.in_default.is-0 in absurd (cc)) look
+      | in_default-via-in-Hashed+in_default w ↦
+          none (λ r e. let is = w.in_default.is-0 in absurd (cc)) (λ r e. no_key c.args.step.now w.in_default.not-Key-1) (λ r e. let is = w.in_default.is-0 in absurd (cc)) look
+      | in_default-via-in-Kept+in_default w ↦
+          none (λ r e. let is = w.in_default.is-0 in absurd (cc)) (λ r e. let is = w.in_default.is-0 in absurd (cc)) (λ r e. no_key c.args.step.now w.in_default.not-Key-1) look
+      | in_default-via-in_default w ↦
+          none (λ r e. absurd (w.in_default.not-Ordered-0 r e)) (λ r e. absurd (w.in_default.not-Hashed-0 r e)) (λ r e. absurd (w.in_default.not-Kept-0 r e)) look
+    ]) refl refl

@@ -39,7 +39,7 @@ pub returns-then-not-is_found_at : goal.returns-then-not-is_found_at
 returns-then-not-is_found_at g c =
     let map = c.args.map in
     told_lost map.bytes map.pos c.requires (c.in-Some.field-0-0, c.in-Some.control, c.in-Some.pair) c.loop-control.control-iterator c.next.new.self c.in-Some.ensures.steps c.loop-control.invariant.left c.key_of-key.result.now c.key_of-key.ensures
-    c.tag_of.result c.hash_text-hash.result c.hash_text-hash.ensures c.tag_of.ensures.value c.if-tag_of-control.false c.is_found_at.result c.search.result c.hash_text-hash.type_inv c.search.ensures.answers (subst (λ n. MatchOption c.search.result (c.is_found_at.result ≡ false) (λ at. c.is_found_at.result ≡ (at == n))) c.pos.ensures c.is_found_at.ensures) c.if-not-is_found_at.true refusal.NotFound refl
+    c.tag_of.result c.hash_text-hash.result c.hash_text-hash.ensures c.tag_of.ensures.value c.if-tag_of-control.false c.is_found_at.result c.search.result.0 c.hash_text-hash.type_inv (λ b table. (c.search.result.1, c.search.ensures.answers b table)) (subst (λ n. MatchOption c.search.result.0 (c.is_found_at.result ≡ false) (λ at. c.is_found_at.result ≡ (at == n))) c.pos.ensures c.is_found_at.ensures) c.if-not-is_found_at.true refusal.NotFound refl
 
 pub loop-control-preserved : goal.loop-control-preserved
 loop-control-preserved g c =
@@ -48,7 +48,7 @@ loop-control-preserved g c =
       there = All-tail HasPair _ _ (subst (All HasPair) c.in-Some.ensures.steps c.loop-control.invariant.there);
       left =
           rest_left map.bytes map.pos c.requires (c.in-Some.field-0-0, c.in-Some.control, c.in-Some.pair) c.loop-control.control-iterator c.next.new.self c.in-Some.ensures.steps c.loop-control.invariant.left c.key_of-key.result.now c.key_of-key.ensures
-          c.tag_of.result c.hash_text-hash.result c.hash_text-hash.ensures c.tag_of.ensures.value c.if-tag_of-control.false c.is_found_at.result c.search.result c.hash_text-hash.type_inv c.search.ensures.answers (subst (λ n. MatchOption c.search.result (c.is_found_at.result ≡ false) (λ at. c.is_found_at.result ≡ (at == n))) c.pos.ensures c.is_found_at.ensures) c.if-not-is_found_at.false;
+          c.tag_of.result c.hash_text-hash.result c.hash_text-hash.ensures c.tag_of.ensures.value c.if-tag_of-control.false c.is_found_at.result c.search.result.0 c.hash_text-hash.type_inv (λ b table. (c.search.result.1, c.search.ensures.answers b table)) (subst (λ n. MatchOption c.search.result.0 (c.is_found_at.result ≡ false) (λ at. c.is_found_at.result ≡ (at == n))) c.pos.ensures c.is_found_at.ensures) c.if-not-is_found_at.false;
     }
 
 pub returns : goal.returns

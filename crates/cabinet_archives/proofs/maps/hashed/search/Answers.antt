@@ -8,7 +8,10 @@ pub search_table-requires-clause-callable : goal.search_table-requires-clause-ca
 search_table-requires-clause-callable g c b is = items_there pair_shape knows_pairs c.args.map.bytes.now c.args.map.pos c.requires.has b is
 
 pub returns-clause-answers : goal.returns-clause-answers
-returns-clause-answers g c b is = (c.search_table.result.1, c.search_table.ensures.answers b is)
+returns-clause-answers g c b is = c.search_table.ensures.answers b is
+
+pub returns-clause-few : goal.returns-clause-few
+returns-clause-few g c b is = c.search_table.ensures.few b is
 
 pub returns-clause-there : goal.returns-clause-there
 returns-clause-there g c =

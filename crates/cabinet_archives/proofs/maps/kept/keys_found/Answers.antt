@@ -13,13 +13,13 @@ pub returns-then-not-is_found_at : goal.returns-then-not-is_found_at
 returns-then-not-is_found_at g c =
     let map = c.args.map in
     keys_lost map.bytes map.pos c.requires c.loop-index.index (λ m stands. omega (arith, c.loop-index-test.true, c.len-index-end.ensures m stands, c.loop-index.auto.index-end)) c.loop-index.invariant
-    c.key_of-key.result.now c.key_of-key.ensures c.hash_text.result c.hash_text.ensures c.hash_text.type_inv c.is_found_at.result c.search.result c.search.ensures.answers c.is_found_at.ensures c.if-not-is_found_at.true refusal.NotFound refl
+    c.key_of-key.result.now c.key_of-key.ensures c.hash_text.result c.hash_text.ensures c.hash_text.type_inv c.is_found_at.result c.search.result.0 (λ m stands. (c.search.result.1, c.search.ensures.answers m stands)) c.is_found_at.ensures c.if-not-is_found_at.true refusal.NotFound refl
 
 pub loop-index-preserved : goal.loop-index-preserved
 loop-index-preserved g c =
     let map = c.args.map in
     keys_left map.bytes map.pos c.requires c.loop-index.index (λ m stands. omega (arith, c.loop-index-test.true, c.len-index-end.ensures m stands, c.loop-index.auto.index-end)) c.loop-index.invariant
-    c.key_of-key.result.now c.key_of-key.ensures c.hash_text.result c.hash_text.ensures c.hash_text.type_inv c.is_found_at.result c.search.result c.search.ensures.answers c.is_found_at.ensures c.if-not-is_found_at.false
+    c.key_of-key.result.now c.key_of-key.ensures c.hash_text.result c.hash_text.ensures c.hash_text.type_inv c.is_found_at.result c.search.result.0 (λ m stands. (c.search.result.1, c.search.ensures.answers m stands)) c.is_found_at.ensures c.if-not-is_found_at.false
 
 pub returns : goal.returns
 returns g c =
