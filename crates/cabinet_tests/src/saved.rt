@@ -3,7 +3,7 @@ use crate::doubles::{FailingWriter, SliceSource};
 use crate::saving::{A_TO_WORLD, COFFEE_AND_TEA, SIX, VAT_IN_EU, Z_AND_A};
 use crate::sessions::five;
 use archive_core_serializing::Buffer;
-use archive_shape_writing::Error;
+use archive_shape_writing::{Error, Positional};
 use cabinet::{Document, Line, Node, SaveRefusal, check, open, read_text, save, work};
 use std::alloc::Global;
 use std::test::Fail;
@@ -121,12 +121,24 @@ fn documents_are_written_as_their_images(rt: HostRuntime) -> Result<(), Fail> {
 fn a_writer_that_fails_is_told_of(rt: HostRuntime) -> Result<(), Fail> {
     let document = Document::new(Node::Int(5))?;
     let mut writer = FailingWriter::new(rt.alloc(), 0);
+    assert!(rt; writer.pos() == 0);
     let refusal = save(rt.alloc(), &document, &mut writer);
     assert!(rt; refusal == Err(SaveRefusal::Writer(Error::WriterFailed)));
+    Ok(())
+}
+
+#[test]
+fn a_buffer_that_is_too_short_is_told_of(rt: HostRuntime) -> Result<(), Fail> {
+    let document = Document::new(Node::Int(5))?;
     let mut room = [0u8; 23];
     let mut writer = Buffer::new(&mut room);
     let refusal = save(rt.alloc(), &document, &mut writer).err();
     assert!(rt; refusal == Some(SaveRefusal::Writer(Error::BufferOverflow)));
+    Ok(())
+}
+
+#[test]
+fn a_question_fails_as_its_writer_does(rt: HostRuntime) -> Result<(), Fail> {
     let mut bytes = five();
     let opened = open(rt.alloc(), &mut bytes).map_err(|_| "refused")?;
     let mut writer = FailingWriter::new(rt.alloc(), 0);

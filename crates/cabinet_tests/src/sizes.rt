@@ -89,8 +89,12 @@ fn maps_of_each_size_are_saved_loaded_and_answer(rt: HostRuntime) -> Result<(), 
 
 /// Returns how many keys a look-up of the decimal text of a number compares in the ordered map of 215 keys.
 fn compared(alloc: Global, number: i64) -> Result<usize, Fail> {
-    let [ordered, _, _] = maps_of(alloc, 215)?;
-    let mut archive = to_bytes(alloc, &Document::new(ordered)?)?;
+    let mut ordered = BTreeMap::new(alloc);
+    for key in 0..215 {
+        ordered.insert(decimal(alloc, key)?, Node::Int(key))?;
+    }
+    let document = Document::new(Node::Ordered(ordered))?;
+    let mut archive = to_bytes(alloc, &document)?;
     let opened = open(alloc, archive.as_mut_slice()).map_err(|_| "refused")?;
     let path = [Step::Key(decimal(alloc, number)?)];
     let (_, steps) = opened.locate(&path);
