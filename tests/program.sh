@@ -3,146 +3,8 @@
 # and crates/cab_show. Each case compares what they print, their faults, their status and the files that they leave with
 # what is written here.
 set -u
-root=$(cd "$(dirname "$0")/.." && pwd)
-work=$(mktemp -d)
-# a file system that a case mounted, and left when the script was stopped
-trap 'umount "$work/files/full" 2> /dev/null; rm -rf "$work"' EXIT
-cab=$work/cab
-show=$work/cab_show
-
-# proved NAME WORD..: proves and builds a program, if that is not done yet, and runs it
-proved() {
-    local program=$1
-    shift
-    echo "proving and building $program"
-    if ! (cd "$root/crates/$program" && rt run -- "$@") < /dev/null > "$work/log" 2>&1; then
-        cat "$work/log"
-        echo "$program was not built"
-        echo '0 passed, 1 failed'
-        exit 1
-    fi
-}
-
-# Without the paths of the programs, proves and builds them.
-if [ $# -eq 0 ]; then
-    proved cab build "$root/examples/first/text" "$work/first.cab"
-    proved cab_show "$work/first.cab"
-fi
-cp "${1:-$root/crates/cab/out/cab}" "$cab" && chmod +x "$cab" || exit 1
-cp "${2:-$root/crates/cab_show/out/cab_show}" "$show" && chmod +x "$show" || exit 1
-mkdir "$work/files"
-cd "$work/files" || exit 1
-
-usage='cab: usage: cab build TEXT ARCHIVE | cab run ARCHIVE\n'
-show_usage='cab_show: usage: cab_show ARCHIVE\n'
-five=010000000000000005000000000000000000000000000000
-six=010000000000000006000000000000000000000000000000
-seven=010000000000000007000000000000000000000000000000
-nineteen=010000000000000013000000000000000000000000000000
-twenty=010000000000000014000000000000000000000000000000
-two=05000000ccffffff02000000000000000000000000000000
-# an option of the node that ends where it begins
-some=0400000001000000e0ffffff000000000000000000000000
-# a list of it
-one=05000000e4ffffff01000000000000000000000000000000
-none=040000000000000000000000000000000000000000000000
-# a list of two shared texts, `hello world!` twice, and the empty text twice
-twice=68656c6c6f20776f726c64210000000003000000ecffffff0c000000000000000000000000000000
-twice=${twice}03000000d4ffffff0c00000000000000000000000000000005000000ccffffff02000000000000000000000000000000
-empties=000000000000000003000000f4ffffff0000000000000000000000000000000003000000dcffffff0000000000000000000000000000000005000000ccffffff02000000000000000000000000000000
-passed=0
-failed=0
-
-# ---- the steps of a case
-
-begin() {
-    name=$1
-    wrong=
-    rm -rf ./* ./.[!.]*
-    : > input
-}
-
-# text FORMAT: the file text, as printf writes it
-text() {
-    printf "$1" > text
-}
-
-# lines FORMAT: the standard input
-lines() {
-    printf "$1" > input
-}
-
-# archive HEX: the file a.cab
-archive() {
-    printf "$(sed 's/../\\x&/g' <<< "$1")" > a.cab
-}
-
-# put AT HEX: changes bytes of the file a.cab
-put() {
-    printf "$(sed 's/../\\x&/g' <<< "$2")" | dd of=a.cab bs=1 seek="$1" conv=notrunc status=none
-}
-
-# runs cab with the given words
-run() {
-    "$cab" "$@" < input > output 2> errors
-    ended=$?
-}
-
-# runs cab_show with the given words
-show() {
-    "$show" "$@" < input > output 2> errors
-    ended=$?
-}
-
-differs() {
-    wrong="$wrong; $1"
-}
-
-# prints FORMAT: what the program wrote to its standard output
-prints() {
-    printf "$1" | cmp -s - output || differs "it printed $(head -c 200 output | tr '\n' '|')"
-}
-
-# ends STATUS FORMAT: the status that the program ended with, and what it wrote to its standard error
-ends() {
-    [ "$ended" = "$1" ] || differs "it ended with status $ended"
-    printf "$2" | cmp -s - errors || differs "its faults were $(head -c 200 errors | tr '\n' '|')"
-}
-
-# holds FILE HEX: the bytes of a file
-holds() {
-    [ "$(od -An -v -t x1 "$1" 2> /dev/null | tr -d ' \n')" = "$2" ] || differs "$1 has other bytes"
-}
-
-lacks() {
-    [ ! -e "$1" ] || differs "$1 is there"
-}
-
-# leaves NAME..: the names in the folder, without those of the steps themselves
-leaves() {
-    local names
-    names=$(ls -A | grep -vx -e input -e output -e errors | sort | tr '\n' ' ')
-    [ "$names" = "$(printf '%s\n' "$@" | sort | tr '\n' ' ' | sed 's/^ $//')" ] || differs "the folder has $names"
-}
-
-# file_is FILE FORMAT WORDS: what stat says of a file
-file_is() {
-    [ "$(stat -c "$2" "$1" 2> /dev/null)" = "$3" ] || differs "$1 is $(stat -c "$2" "$1" 2>&1), and not $3"
-}
-
-skip() {
-    echo "skipped: $name: $1"
-}
-
-finish() {
-    if [ -z "$wrong" ]; then
-        passed=$((passed + 1))
-        echo "ok: $name"
-    else
-        failed=$((failed + 1))
-        echo "FAILED: $name$wrong"
-    fi
-}
+. "$(dirname "$0")/steps.sh"
+. "$root/tests/bytes.sh"
 
 # ---- the cases that differ in their texts alone
 
@@ -795,75 +657,6 @@ finish
 
 # ---- ordered maps
 
-absent=01000000
-
-# zeros N: N bytes of zero
-zeros() {
-    printf "%0$((2 * $1))d" 0
-}
-
-# word N: a number, in four bytes
-word() {
-    local hex
-    printf -v hex %08x $(($1 & 0xffffffff))
-    echo "${hex:6}${hex:4:2}${hex:2:2}${hex:0:2}"
-}
-
-# key KEY: the eight bytes of a key of at most eight characters of ASCII
-key() {
-    local bytes= place code
-    for place in {0..7}; do
-        code=ff
-        [ "$place" -ge ${#1} ] || printf -v code %02x "'${1:place:1}"
-        bytes=$bytes$code
-    done
-    echo "$bytes"
-}
-
-# number N: the node of a number from 0 to 2^31 - 1
-number() {
-    echo "0100000000000000$(word "$1")$(zeros 12)"
-}
-
-# slots KEY NUMBER ..: in a node of a tree the five keys, what no field has, and the five values, all numbers; the last
-# keys and values are unused
-slots() {
-    local keys= values=
-    while [ $# -gt 0 ]; do
-        keys=$keys$(key "$1")
-        values=$values$(number "$2")
-        shift 2
-    done
-    keys=$keys$(zeros 44)
-    values=$values$(zeros 120)
-    echo "${keys:0:88}${values:0:240}"
-}
-
-# leaf KEY NUMBER ..: a leaf of a tree, 176 bytes
-leaf() {
-    echo "00000000$(slots "$@")$(word $(($# / 2)))00000000"
-}
-
-# inner CHILDREN KEY NUMBER ..: an inner node of a tree, 192 bytes; CHILDREN are the offsets of its six children
-inner() {
-    echo "01000000$(slots "${@:2}")$1"
-}
-
-# map OFFSET LENGTH: the node of an ordered map
-map() {
-    echo "06000000$(word "$1")$(word "$2")$(zeros 12)"
-}
-
-# with BYTES AT HEX ..: the bytes, changed at these positions
-with() {
-    local bytes=$1
-    while [ $# -gt 1 ]; do
-        bytes=${bytes:0:2 * $2}$3${bytes:2 * $2 + ${#3}}
-        shift 2
-    done
-    echo "$bytes"
-}
-
 # asks NAME TEXT LINES ANSWERS: the answers in the archive of a text, which they leave as it was
 asks() {
     begin "$1"
@@ -878,9 +671,6 @@ asks() {
     cmp -s a.cab before.cab || differs 'the archive was written'
     finish
 }
-
-coffee=$(leaf coffee 300 tea 250)060000004cffffff02000000000000000000000000000000
-letters=$(leaf a 1)$(inner "a8feffff$absent$absent$absent$absent$absent" b 2 c 3 d 4 e 5 f 6)060000003cffffff06000000000000000000000000000000
 
 builds 'ordered 0' 060000000100000000000000000000000000000000000000
 builds "ordered 2\n'coffee\nint 300\n'tea\nint 250" "$coffee"
@@ -1273,71 +1063,12 @@ flips 'each bit of a map with two nodes' "$letters" "get\nkeys\nrange 'b 'e\nget
 
 # ---- hashed maps
 
-# hash_of KEY: sets `hash` to the hash of a text of ASCII: each word of eight bytes, the first byte lowest, and the word 255
-# at the end. Numbers here have 64 bits, as the hash has, with a sign.
-hash_of() {
-    local word at place code
-    hash=0
-    for ((at = 0; at < ${#1}; at += 8)); do
-        word=0
-        for place in {7..0}; do
-            code=0
-            [ $((at + place)) -ge ${#1} ] || printf -v code %d "'${1:at + place:1}"
-            word=$((word << 8 | code))
-        done
-        hash=$((((hash << 5 | hash >> 59 & 31) ^ word) * 0x517cc1b727220a95))
-    done
-    hash=$((((hash << 5 | hash >> 59 & 31) ^ 255) * 0x517cc1b727220a95))
-}
-
-# first_place PLACES: sets `place` to what is left of `hash` without its sign
-first_place() {
-    place=$((((hash >> 1 & 0x7fffffffffffffff) % $1 * 2 + (hash & 1)) % $1))
-}
-
-# table KEY NODE ..: the buckets and the controls of at most fourteen pairs. Sixteen places or fewer have one stride, so
-# each pair lies at the first free place from its hash on. A bucket ends where that of the place before begins.
-table() {
-    local count=$(($# / 2)) hash place control of_places=() of_tags=() bytes=
-    local places=$((count * 8 / 7 > count ? count * 8 / 7 : count + 1))
-    while [ $# -gt 0 ]; do
-        hash_of "$1"
-        first_place $places
-        while [ "${of_places[place]:-}" ]; do
-            place=$(((place + 1) % places))
-        done
-        of_places[place]=$(key "$1")$2
-        printf -v of_tags[place] %02x $((hash >> 57 & 127))
-        shift 2
-    done
-    for ((place = places - 1; place >= 0; place--)); do
-        bytes=$bytes${of_places[place]:-$(zeros 32)}
-    done
-    for ((control = 0; control < 31; control++)); do
-        if [ $control -lt $((2 * places)) ]; then
-            bytes=$bytes${of_tags[control % places]:-ff}
-        else
-            bytes=${bytes}ff
-        fi
-    done
-    echo "$bytes"
-}
-
-# hashed OFFSET LENGTH PLACES: the node of a hashed map
-hashed() {
-    echo "07000000$(word "$1")$(word "$2")$(word "$3")$(zeros 8)"
-}
-
 begin 'the hashes by which the tables below are filled'
 hash_of a
 [ "$(printf %x $hash)" = aa44c3c5b8e22aff ] || differs "that of a is $(printf %x $hash)"
 hash_of ''
 [ "$(printf %x $hash)" = 2b44f56ffae88a6b ] || differs "that of the empty text is $(printf %x $hash)"
 finish
-
-world=61ffffffffffffff02000000776f726c64ffffff$(zeros 44)ff55ff55$(printf 'ff%.0s' {1..27})0007000000dcffffff01000000020000000000000000000000
-single=$(table a "$(number 1)")00$(hashed -36 1 2)
-under_eu="$seven$nineteen$(table vat "05000000a4ffffff02000000$(zeros 12)")00$(with "$(leaf eu 0)" 48 "$(hashed -84 1 2)")$(map -180 1)"
 
 builds 'hashed 0' 070000000100000000000000000000000000000000000000
 builds "hashed 1\n'a\ntext 'world" "$world"
@@ -1516,10 +1247,6 @@ for outcome in 'TooDeep 65' 'TooDeep 2198' 'Access 2199'; do
 done
 
 # ---- kept maps
-
-# the kept map from z to 1 and from a to 2: the numbers of its three places, the controls from 12 on, the entries from 48
-# on, and the root from 112 on
-z_and_a=0100000000000000$(zeros 4)ff1155ff1155$(printf 'ff%.0s' {1..25})$(zeros 5)$(key z)$(number 1)$(key a)$(number 2)0800000098ffffff0200000003000000b0ffffff$(zeros 4)
 
 builds 'kept 0' 080000000100000000000000000000000100000000000000
 builds "kept 2\n'z\nint 1\n'a\nint 2" "$z_and_a"

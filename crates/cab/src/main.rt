@@ -19,12 +19,15 @@ use std::io::IsTerminal;
 use std::process::ExitCode;
 use std::rt::{Env, Files};
 
+/// The place of the path of the file that is read, in both commands.
+const PATH: usize = 2;
+
 /// Carries out the command that the words spell.
 fn carry_out<R: Env + Files<File = File> + Input + Print + AllocGlobal>(rt: &R) -> Result<(), Fault>
 where
     R::Reader: IsTerminal,
 {
-    match parse(words(rt)?) {
+    match parse(words(rt, PATH)?) {
         Some(Command::Build { text, archive }) => build(rt, text, archive),
         Some(Command::Run { archive }) => run_archive(rt, archive),
         None => Err(Fault::Usage),

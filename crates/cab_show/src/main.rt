@@ -14,9 +14,12 @@ use std::fs::File;
 use std::process::ExitCode;
 use std::rt::{Env, Files};
 
+/// The place of the path of the archive among the words.
+const PATH: usize = 1;
+
 /// Carries out the command that the words spell.
 fn carry_out<R: Env + Files<File = File> + Print + AllocGlobal>(rt: &R) -> Result<(), Fault> {
-    match parse(words(rt)?) {
+    match parse(words(rt, PATH)?) {
         Some(archive) => show_archive(rt, archive),
         None => Err(Fault::Usage),
     }

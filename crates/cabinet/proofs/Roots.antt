@@ -5,8 +5,8 @@ use Rattle.archive_shape.specs.Key.{HeldAt}
 use Rattle.archive_shape.specs.ShapeLayout.Content.Part.{at}
 use Rattle.archive_core_validation.specs.FormsValues.Parts.{HasValue}
 use Rattle.cabinet_text_grammar.specs.Tree.{Tree}
-use Rattle.cabinet_archived.specs.Documents.Node.{node_shape, KnowsNode}
-use Rattle.cabinet_archived.specs.Documents.Accepted.{Accepted}
+use Rattle.cabinet_archives.specs.Documents.Node.{node_shape, KnowsNode}
+use Rattle.cabinet_archives.specs.Documents.Accepted.{Accepted}
 use Rattle.cabinet_archives.specs.Found.{OfDocument}
 use Rattle.cabinet_archives.specs.Sound.{IsSoundPart}
 use Rattle.cabinet_archives.proofs.Reached.{root_of as place, root_there as root_held, root_has_value, root_is_sound}

@@ -7,8 +7,8 @@ use Rattle.cabinet_text_grammar.specs.Path.{Step}
 use Rattle.cabinet_text_grammar.specs.Line.{Line, get, keys, range, set, Says}
 use Rattle.cabinet_text_grammar.specs.Answering.{Answer, answer, reply, change, spelled_answer}
 use Rattle.cabinet_text_nodes.specs.Lines.{IsQuestion}
-use Rattle.cabinet_archived.specs.Documents.Accepted.{Accepted}
-use Rattle.cabinet_archived.specs.Documents.Image.{Image}
+use Rattle.cabinet_archives.specs.Documents.Accepted.{Accepted}
+use Rattle.cabinet_archives.specs.Documents.Image.{Image}
 use Rattle.cabinet_archives.specs.Setting.{EditLeaves}
 use Rattle.cabinet.specs.Session.{lines_of, AllSay, answer_to, next, answers, after_all, edits, one_if_done}
 use Rattle.cabinet.specs.Editing.{LinesLeave, no_line, more_lines, Edited, EditedByLines}

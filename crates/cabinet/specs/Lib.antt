@@ -8,5 +8,5 @@ pub mod Reporting
 pub mod Session
 pub mod Steps
 pub use Rattle.cabinet_archives.specs as Archives
-pub use Rattle.cabinet_archived.specs.Documents as Documents
+pub use Rattle.cabinet_archives.specs.Documents as Documents
 pub use Rattle.cabinet_text_grammar.specs as TextGrammar

@@ -11,7 +11,6 @@ mod working;
 
 pub use archive_hash_probing::{Group, Group1, Group8, Group16, Scan};
 pub use archive_shape::Steps;
-pub use cabinet_archived as archived;
 pub use cabinet_archives as archives;
 pub use cabinet_archives::{OpenRefusal, SaveRefusal, check, check_scanned, load, save, to_bytes};
 pub use cabinet_documents as documents;

@@ -1,7 +1,7 @@
 //! Working in the bytes of a saved document.
 ghost use Rattle.std.specs.Prelude.{◌≡◌, ◌-◌, ◌^◌, ◌<◌, IsTrue, IfOk, IfErr, OnErr, MatchResult};
 ghost use Rattle.cabinet_text_grammar.specs.Tree.{Tree};
-ghost use Rattle.cabinet_archived.specs.Documents.Accepted.{Accepted};
+ghost use Rattle.cabinet_archives.specs.Documents.Accepted.{Accepted};
 ghost use Rattle.cabinet_archives.specs.Saving.{HasNoImageFor};
 ghost use Rattle.cabinet.specs.Editing.{EditedByLines};
 ghost use Rattle.cabinet.specs.Steps.{Completed, Faulted};

@@ -55,3 +55,4 @@ mod Texts
 mod Walked
 mod Ways
 mod Within
+pub use Rattle.cabinet_archived.proofs.Documents as Documents

@@ -13,3 +13,4 @@ pub mod Saving
 pub mod Setting
 pub mod Sound
 pub mod Way
+pub use Rattle.cabinet_archived.specs.Documents as Documents

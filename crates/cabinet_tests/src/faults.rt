@@ -1,6 +1,6 @@
 //! Tests of the texts of faults and refusals.
 use archive_shape_writing::Error;
-use cabinet::{
+use cabinet_doubles::cabinet::{
     Cause, Fault, OpenRefusal, RunCause, RunFault, SaveRefusal, SourceFailed, TextRefusal,
     fault_line,
 };

@@ -2,8 +2,6 @@
 #![tactic(auto)]
 
 #[cfg(test)]
-mod doubles;
-#[cfg(test)]
 mod faults;
 #[cfg(test)]
 mod limits;
@@ -17,8 +15,6 @@ mod opening;
 mod refused;
 #[cfg(test)]
 mod saved;
-#[cfg(test)]
-mod saving;
 #[cfg(test)]
 mod sessions;
 #[cfg(test)]

@@ -1,7 +1,7 @@
 //! Tests of the longest line of a session.
-use crate::doubles::{FailingWriter, SliceSource};
 use crate::sessions::{counted, faulted, five, run_in};
-use cabinet::RunCause;
+use cabinet_doubles::cabinet::RunCause;
+use cabinet_doubles::{FailingWriter, SliceSource};
 use std::alloc::{AllocError, Global};
 use std::test::Fail;
 
@@ -19,7 +19,7 @@ fn a_line_is_too_long(rt: HostRuntime) -> Result<(), Fail> {
     let input = long_line(rt.alloc(), b"get\n", 1_048_577)?;
     for most in [1, 16384, 2_000_000] {
         let mut bytes = five();
-        let mut writer = FailingWriter::new(rt.alloc(), usize::MAX);
+        let mut writer = FailingWriter::new(rt.alloc(), usize::MAX, 0);
         let source = SliceSource::new(input.as_slice(), usize::MAX, most);
         let came = run_in(rt.alloc(), &mut bytes, source, &mut writer);
         assert!(rt; came == faulted(RunCause::LineTooLong, 1, 0));
@@ -34,7 +34,7 @@ fn the_longest_line_is_carried_out(rt: HostRuntime) -> Result<(), Fail> {
     input.push(b'\n')?;
     for most in [1, 16384, 2_000_000] {
         let mut bytes = five();
-        let mut writer = FailingWriter::new(rt.alloc(), usize::MAX);
+        let mut writer = FailingWriter::new(rt.alloc(), usize::MAX, 0);
         let source = SliceSource::new(input.as_slice(), usize::MAX, most);
         let came = run_in(rt.alloc(), &mut bytes, source, &mut writer);
         assert!(rt; came == counted(1, 0));

@@ -1,9 +1,9 @@
 //! Tests of documents that are loaded from archives.
 use crate::opening::{FIVE_ABOVE_NONE, TWO_SHARED, loose, sparse};
 use crate::saved::archive_of;
-use crate::saving::Z_AND_A;
-use cabinet::archives::to_bytes;
-use cabinet::{Document, Leaf, Node, SetAnswer, Step, open, write_text};
+use cabinet_doubles::archives::Z_AND_A;
+use cabinet_doubles::cabinet::archives::to_bytes;
+use cabinet_doubles::cabinet::{Document, Leaf, Node, SetAnswer, Step, open, write_text};
 use std::alloc::Global;
 use std::rc::RcStr;
 use std::test::Fail;

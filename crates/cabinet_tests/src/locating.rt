@@ -1,7 +1,7 @@
 //! Tests of the kinds that paths lead to, and of what the look-ups on them take, by each scan.
 use crate::opening::{FIVE_ABOVE_NONE, sparse, tall};
-use crate::saving::{A_TO_WORLD, COFFEE_AND_TEA, VAT_IN_EU, Z_AND_A};
-use cabinet::{
+use cabinet_doubles::archives::{A_TO_WORLD, COFFEE_AND_TEA, VAT_IN_EU, Z_AND_A};
+use cabinet_doubles::cabinet::{
     Group1, Group8, Group16, Kind, Leaf, Line, Scan, SetAnswer, Step, Steps, open, open_scanned,
     read_line,
 };

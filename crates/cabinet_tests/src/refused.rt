@@ -1,9 +1,10 @@
 //! Tests of bytes that are no archive, with the first fault of each, and of options nested as deep as is allowed.
-use crate::doubles::{FailingWriter, SliceSource};
 use crate::saved::archive_of;
 use crate::sessions::{counted, run_in};
 use archive_shape_writing::Error;
-use cabinet::{OpenRefusal, check};
+use cabinet_doubles::archives::TWO_SHARED;
+use cabinet_doubles::cabinet::{OpenRefusal, check};
+use cabinet_doubles::{FailingWriter, SliceSource};
 use std::alloc::{AllocError, Global};
 use std::test::Fail;
 
@@ -21,10 +22,6 @@ const TWO: [u8; 72] =
 /// The archive of a list of an option of `int 1` and one of `int 2`.
 const TWO_OPTIONS: [u8; 120] =
     *b"\x01\0\0\0\0\0\0\0\x01\0\0\0\0\0\0\0\0\0\0\0\0\0\0\0\x01\0\0\0\0\0\0\0\x02\0\0\0\0\0\0\0\0\0\0\0\0\0\0\0\x04\0\0\0\x01\0\0\0\xc8\xff\xff\xff\0\0\0\0\0\0\0\0\0\0\0\0\x04\0\0\0\x01\0\0\0\xc8\xff\xff\xff\0\0\0\0\0\0\0\0\0\0\0\0\x05\0\0\0\xcc\xff\xff\xff\x02\0\0\0\0\0\0\0\0\0\0\0\0\0\0\0";
-
-/// The archive of a list of the shared text `hello world!` twice.
-const TWO_SHARED: [u8; 88] =
-    *b"hello world!\0\0\0\0\x03\0\0\0\xec\xff\xff\xff\x0c\0\0\0\0\0\0\0\0\0\0\0\0\0\0\0\x03\0\0\0\xd4\xff\xff\xff\x0c\0\0\0\0\0\0\0\0\0\0\0\0\0\0\0\x05\0\0\0\xcc\xff\xff\xff\x02\0\0\0\0\0\0\0\0\0\0\0\0\0\0\0";
 
 /// An ordered map without entries, with other bytes where no field is, and in its pointer.
 const EMPTY_MAP: [u8; 24] =
@@ -190,7 +187,7 @@ fn options_are_accepted_64_deep_and_no_deeper(rt: HostRuntime) -> Result<(), Fai
     for (count, answer) in [(64, b"int 1\n".as_slice()), (65, b"missing\n")] {
         let line = question(alloc, count)?;
         let source = SliceSource::new(line.as_slice(), usize::MAX, 16384);
-        let mut writer = FailingWriter::new(alloc, usize::MAX);
+        let mut writer = FailingWriter::new(alloc, usize::MAX, 0);
         let came = run_in(alloc, archive.as_mut_slice(), source, &mut writer);
         assert!(rt; came == counted(1, 0));
         assert!(rt; writer.bytes() == answer);

@@ -1,10 +1,12 @@
 //! Tests of documents that are saved byte by byte, refused and worked in.
-use crate::doubles::{FailingWriter, SliceSource};
-use crate::saving::{A_TO_WORLD, COFFEE_AND_TEA, SIX, VAT_IN_EU, Z_AND_A};
 use crate::sessions::five;
 use archive_core_serializing::Buffer;
 use archive_shape_writing::{Error, Positional};
-use cabinet::{Document, Line, Node, SaveRefusal, check, open, read_text, save, work};
+use cabinet_doubles::archives::{A_TO_WORLD, COFFEE_AND_TEA, SIX, VAT_IN_EU, Z_AND_A};
+use cabinet_doubles::cabinet::{
+    Document, Line, Node, SaveRefusal, check, open, read_text, save, work,
+};
+use cabinet_doubles::{FailingWriter, SliceSource};
 use std::alloc::Global;
 use std::test::Fail;
 
@@ -120,7 +122,7 @@ fn documents_are_written_as_their_images(rt: HostRuntime) -> Result<(), Fail> {
 #[test]
 fn a_writer_that_fails_is_told_of(rt: HostRuntime) -> Result<(), Fail> {
     let document = Document::new(Node::Int(5))?;
-    let mut writer = FailingWriter::new(rt.alloc(), 0);
+    let mut writer = FailingWriter::new(rt.alloc(), 0, 0);
     assert!(rt; writer.pos() == 0);
     let refusal = save(rt.alloc(), &document, &mut writer);
     assert!(rt; refusal == Err(SaveRefusal::Writer(Error::WriterFailed)));
@@ -141,7 +143,7 @@ fn a_buffer_that_is_too_short_is_told_of(rt: HostRuntime) -> Result<(), Fail> {
 fn a_question_fails_as_its_writer_does(rt: HostRuntime) -> Result<(), Fail> {
     let mut bytes = five();
     let opened = open(rt.alloc(), &mut bytes).map_err(|_| "refused")?;
-    let mut writer = FailingWriter::new(rt.alloc(), 0);
+    let mut writer = FailingWriter::new(rt.alloc(), 0, 0);
     let asked = opened.ask(&Line::Get(Vec::new(rt.alloc())), &mut writer);
     assert!(rt; asked == Err(Error::WriterFailed));
     Ok(())
@@ -185,7 +187,7 @@ fn questions_and_edits_in_a_saved_document_are_answered(rt: HostRuntime) -> Resu
     for (text, lines, answers, edited) in rows {
         let document = read_text(rt.alloc(), text).map_err(|_| "no document")?;
         let mut source = SliceSource::new(lines, usize::MAX, 7);
-        let mut writer = FailingWriter::new(rt.alloc(), usize::MAX);
+        let mut writer = FailingWriter::new(rt.alloc(), usize::MAX, 0);
         let worked = work(rt.alloc(), &document, &mut source, &mut writer).map_err(
             |_| "not saved",
         )?;

@@ -1,8 +1,8 @@
 //! Tests of sessions in the archive of one number: their answers, counts and faults.
 ghost use Rattle.std.specs.Prelude.{◌≡◌};
 
-use crate::doubles::{FailingWriter, SliceSource};
-use cabinet::{Count, RunCause, RunFault, open, run};
+use cabinet_doubles::cabinet::{Count, RunCause, RunFault, open, run};
+use cabinet_doubles::{FailingWriter, SliceSource};
 use std::alloc::Global;
 
 /// Returns the archive of `int 5`.
@@ -61,7 +61,7 @@ fn lines_are_answered(rt: HostRuntime) {
     for (input, output, lines, edits, left) in cases {
         for most in [1, 2, 3, 5, 16384] {
             let mut bytes = five();
-            let mut writer = FailingWriter::new(rt.alloc(), usize::MAX);
+            let mut writer = FailingWriter::new(rt.alloc(), usize::MAX, 0);
             let source = SliceSource::new(input, usize::MAX, most);
             let came = run_in(rt.alloc(), &mut bytes, source, &mut writer);
             assert!(rt; came == counted(lines, edits));
@@ -87,7 +87,7 @@ fn a_failed_write_or_read_ends_the_run(rt: HostRuntime) {
     ];
     for (input, reads, writes, cause, edits, left) in rows {
         let mut bytes = five();
-        let mut writer = FailingWriter::new(rt.alloc(), writes);
+        let mut writer = FailingWriter::new(rt.alloc(), writes, 0);
         let source = SliceSource::new(input, reads, 16384);
         let came = run_in(rt.alloc(), &mut bytes, source, &mut writer);
         assert!(rt; came == faulted(cause, edits, edits));
@@ -101,7 +101,7 @@ fn a_failed_write_or_read_ends_the_run(rt: HostRuntime) {
 #[test]
 fn a_refusal_of_memory_is_told(rt: HostRuntime) {
     let mut bytes = five();
-    let mut writer = FailingWriter::new(rt.alloc(), usize::MAX);
+    let mut writer = FailingWriter::new(rt.alloc(), usize::MAX, 0);
     let source = SliceSource::new(b"set int 6\nset text 'ab\nget\n", usize::MAX, 3);
     let output: &[u8] = b"ok\nrefused\nint 6\n";
     match run_in(rt.alloc(), &mut bytes, source, &mut writer) {

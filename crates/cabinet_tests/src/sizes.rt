@@ -1,7 +1,7 @@
 //! Tests of maps of each size: the sizes of their archives, their documents when loaded, and under each key an answer and
 //! what its look-up takes.
 use crate::loading::text_of;
-use cabinet::{Document, Kind, Line, Node, Opened, Step, open, to_bytes};
+use cabinet_doubles::cabinet::{Document, Kind, Line, Node, Opened, Step, open, to_bytes};
 use std::alloc::Global;
 use std::collections::BTreeMap;
 use std::test::Fail;

@@ -1,5 +1,5 @@
 //! Tests of writers.
-use super::failing::FailingWriter;
+use archive_doubles::FailingWriter;
 use archive_shape_writing::{
     Error, Positional, Writer, write_all_pieces, write_three_pieces, write_two_pieces,
 };
@@ -20,10 +20,10 @@ fn a_vector_is_a_writer(rt: HostRuntime) -> Result<(), Fail> {
 
 #[test]
 fn a_failed_write_keeps_a_prefix(rt: HostRuntime) -> Result<(), Fail> {
-    let mut writer = FailingWriter::new(rt.alloc(), 2);
+    let mut writer = FailingWriter::new(rt.alloc(), 2, 1);
     let result = write_all_pieces(&mut writer, &[&[1, 2], &[3, 4], &[5, 6], &[7, 8]]);
     assert!(rt; result == Err(Error::WriterFailed));
     assert!(rt; writer.bytes() == [1, 2, 3, 4, 5].as_slice());
-    assert!(rt; writer.failures() == 1);
+    assert!(rt; writer.failures == 1);
     Ok(())
 }

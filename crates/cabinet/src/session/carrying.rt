@@ -8,7 +8,7 @@ ghost use Rattle.cabinet.specs.Session.{lines_of, answer_to, one_if_done};
 ghost use Rattle.cabinet_text_nodes.specs.Lines.{IsQuestion};
 ghost use Rattle.cabinet_text_nodes.specs.Outcomes.{outcome_of};
 ghost use Rattle.cabinet_text_nodes.specs.View.{line_of};
-ghost use Rattle.cabinet_archived.specs.Documents.Accepted.{Accepted};
+ghost use Rattle.cabinet_archives.specs.Documents.Accepted.{Accepted};
 ghost use Rattle.cabinet_archives.specs.Failing.{FailsByWriter};
 ghost use Rattle.cabinet.specs.Editing.{Edited};
 ghost use Rattle.cabinet.specs.Steps.{longest_line, newlines, Carried, Faulted, Completed};

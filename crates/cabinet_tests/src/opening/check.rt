@@ -1,5 +1,5 @@
 //! Tests of which bytes are opened, in archives made by hand with each node directly after the nodes that it leads to.
-use cabinet::{OpenRefusal, check};
+use cabinet_doubles::cabinet::{OpenRefusal, check};
 use std::alloc::{AllocError, Global};
 
 const FIVE: [u8; 24] = *b"\x01\0\0\0\0\0\0\0\x05\0\0\0\0\0\0\0\0\0\0\0\0\0\0\0";

@@ -1,6 +1,6 @@
 //! Tests of questions and edits under the keys of ordered maps.
-use crate::saving::COFFEE_AND_TEA;
-use cabinet::{Asked, Leaf, SetAnswer, Step, open, read_line};
+use cabinet_doubles::archives::COFFEE_AND_TEA;
+use cabinet_doubles::cabinet::{Asked, Leaf, SetAnswer, Step, open, read_line};
 use std::test::Fail;
 
 /// A map from a to e to the numbers from 1 to 5, as saving never writes it: a leaf without entries from 0 on, an inner

@@ -4,7 +4,7 @@ use crate::opening::made::{
     Container, EMPTY_MAP, FIVE, Made, NOTHING, push_inner, push_leaf, push_map, push_node,
     push_options, push_tower,
 };
-use cabinet::{OpenRefusal, check};
+use cabinet_doubles::cabinet::{OpenRefusal, check};
 use std::alloc::{AllocError, Global};
 
 /// Returns the map with one leaf before the first and one after the last entry of the root of its tree.

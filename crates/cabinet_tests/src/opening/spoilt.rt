@@ -1,8 +1,8 @@
 //! Tests of archives of maps in which one byte was changed, each byte to each other value.
 ghost use Rattle.std.specs.Prelude.{◌<◌, length};
 
-use crate::saving::{A_TO_WORLD, COFFEE_AND_TEA, SIX, VAT_IN_EU};
-use cabinet::{OpenRefusal, open};
+use cabinet_doubles::archives::{A_TO_WORLD, COFFEE_AND_TEA, SIX, VAT_IN_EU};
+use cabinet_doubles::cabinet::{OpenRefusal, open};
 use std::alloc::{AllocError, Global};
 
 /// How many archives were accepted, how many were refused because their keys do not ascend, how many because a control is

@@ -1,10 +1,12 @@
 //! Tests of hash tables and index maps that are accepted or refused, and of questions and edits in maps, by each scan.
-use crate::doubles::{FailingWriter, SliceSource};
 use crate::opening::keyed::loose;
 use crate::refused::changed;
-use crate::saving::{A_TO_WORLD, VAT_IN_EU, Z_AND_A};
 use archive_shape_writing::Error;
-use cabinet::{Group1, Group8, Group16, OpenRefusal, Scan, check_scanned, open_scanned, run};
+use cabinet_doubles::archives::{A_TO_WORLD, VAT_IN_EU, Z_AND_A};
+use cabinet_doubles::cabinet::{
+    Group1, Group8, Group16, OpenRefusal, Scan, check_scanned, open_scanned, run,
+};
+use cabinet_doubles::{FailingWriter, SliceSource};
 use std::alloc::{AllocError, Global};
 use std::test::Fail;
 
@@ -143,7 +145,7 @@ fn answered<G: Scan>(
     lines: &[u8],
 ) -> Result<(Vec<u8>, Vec<u8>), Fail> {
     let mut bytes = Vec::from_slice(alloc, archive)?;
-    let mut writer = FailingWriter::new(alloc, usize::MAX);
+    let mut writer = FailingWriter::new(alloc, usize::MAX, 0);
     let mut source = SliceSource::new(lines, usize::MAX, 16384);
     let mut opened = open_scanned::<G>(alloc, bytes.as_mut_slice()).map_err(|_| "refused")?;
     run(alloc, &mut opened, &mut source, &mut writer).map_err(|_| "failed")?;

@@ -1,9 +1,9 @@
 //! Tests of search trees that are accepted or refused by their layout.
 use crate::opening::made::{FIVE, Made, ZERO, push_inner, push_leaf, push_node, push_values};
 use crate::refused::changed;
-use crate::saving::COFFEE_AND_TEA;
 use archive_shape_writing::Error;
-use cabinet::{OpenRefusal, check};
+use cabinet_doubles::archives::COFFEE_AND_TEA;
+use cabinet_doubles::cabinet::{OpenRefusal, check};
 use std::alloc::{AllocError, Global};
 
 #[test]

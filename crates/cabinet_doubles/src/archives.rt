@@ -1,4 +1,4 @@
-//! The archives of maps, byte by byte, as saving writes them.
+//! Archives of documents, byte by byte, as saving writes them.
 
 /// The archive of the map from coffee to 300 and from tea to 250: a leaf from 0 on, and the root from 176 on.
 pub const COFFEE_AND_TEA: [u8; 200] =
@@ -8,6 +8,10 @@ pub const COFFEE_AND_TEA: [u8; 200] =
 /// the others from 176 on, and the root from 368 on.
 pub const SIX: [u8; 392] =
     *b"\0\0\0\0a\xff\xff\xff\xff\xff\xff\xff\0\0\0\0\0\0\0\0\0\0\0\0\0\0\0\0\0\0\0\0\0\0\0\0\0\0\0\0\0\0\0\0\0\0\0\0\x01\0\0\0\0\0\0\0\x01\0\0\0\0\0\0\0\0\0\0\0\0\0\0\0\0\0\0\0\0\0\0\0\0\0\0\0\0\0\0\0\0\0\0\0\0\0\0\0\0\0\0\0\0\0\0\0\0\0\0\0\0\0\0\0\0\0\0\0\0\0\0\0\0\0\0\0\0\0\0\0\0\0\0\0\0\0\0\0\0\0\0\0\0\0\0\0\0\0\0\0\0\0\0\0\0\0\0\0\0\0\0\0\0\0\0\0\0\0\0\0\x01\0\0\0\0\0\0\0\x01\0\0\0b\xff\xff\xff\xff\xff\xff\xffc\xff\xff\xff\xff\xff\xff\xffd\xff\xff\xff\xff\xff\xff\xffe\xff\xff\xff\xff\xff\xff\xfff\xff\xff\xff\xff\xff\xff\xff\0\0\0\0\x01\0\0\0\0\0\0\0\x02\0\0\0\0\0\0\0\0\0\0\0\0\0\0\0\x01\0\0\0\0\0\0\0\x03\0\0\0\0\0\0\0\0\0\0\0\0\0\0\0\x01\0\0\0\0\0\0\0\x04\0\0\0\0\0\0\0\0\0\0\0\0\0\0\0\x01\0\0\0\0\0\0\0\x05\0\0\0\0\0\0\0\0\0\0\0\0\0\0\0\x01\0\0\0\0\0\0\0\x06\0\0\0\0\0\0\0\0\0\0\0\0\0\0\0\xa8\xfe\xff\xff\x01\0\0\0\x01\0\0\0\x01\0\0\0\x01\0\0\0\x01\0\0\0\x06\0\0\0<\xff\xff\xff\x06\0\0\0\0\0\0\0\0\0\0\0\0\0\0\0";
+
+/// The archive of the list of the shared text `hello world!` twice: its bytes, and the elements from 16 on.
+pub const TWO_SHARED: [u8; 88] =
+    *b"hello world!\0\0\0\0\x03\0\0\0\xec\xff\xff\xff\x0c\0\0\0\0\0\0\0\0\0\0\0\0\0\0\0\x03\0\0\0\xd4\xff\xff\xff\x0c\0\0\0\0\0\0\0\0\0\0\0\0\0\0\0\x05\0\0\0\xcc\xff\xff\xff\x02\0\0\0\0\0\0\0\0\0\0\0\0\0\0\0";
 
 /// The archive of the map from a to world: the buckets of places 1 and 0, the controls from 64 on, and the root from 96 on.
 pub const A_TO_WORLD: [u8; 120] =

@@ -1,27 +1,31 @@
-//! A writer that fails, for tests.
+//! A writer for tests, which fails.
+#![tactic(auto)]
+
 ghost use Rattle.std.specs.Prelude.{◌≡◌, true, vec_len};
 ghost use Rattle.archive_shape_writing.specs.Progress.Progress.{unmet};
 
 use archive_shape_writing::{Error, Positional, Registry, Writer};
 use std::alloc::Global;
 
-/// A writer that fails after a number of writes, and keeps the first half of the piece that failed.
+/// A writer that fails after a number of writes. Of each later piece it writes the first bytes, up to a number of them.
 #[derive(Drop)]
 pub struct FailingWriter {
     bytes: Vec<u8>,
     writes_left: usize,
-    failures: u64,
+    prefix: usize,
+    pub failures: u64,
     last_error: Error,
 }
 
 impl FailingWriter {
-    /// Creates a writer of which `writes` writes succeed.
-    pub fn new(alloc: Global, writes: usize) -> Self
+    /// Returns a writer that fails after `writes` writes, and then writes at most `prefix` bytes of a piece.
+    pub fn new(alloc: Global, writes: usize, prefix: usize) -> Self
         ensures { result.failures ≡ 0 }
     {
         FailingWriter {
             bytes: Vec::new(alloc),
             writes_left: writes,
+            prefix,
             failures: 0,
             last_error: Error::WriterFailed,
         }
@@ -32,9 +36,9 @@ impl FailingWriter {
         self.bytes.as_slice()
     }
 
-    /// Returns the number of writes that failed.
-    pub fn failures(&self) -> u64 {
-        self.failures
+    /// Returns the number of writes after which the writer fails.
+    pub fn writes_left(&self) -> usize {
+        self.writes_left
     }
 }
 
@@ -69,9 +73,9 @@ impl Writer for FailingWriter {
     fn write(&mut self, bytes: &[u8]) -> Result<(), Error> {
         if self.writes_left == 0 {
             self.failures += 1;
-            let half = bytes.len() / 2;
+            let written = self.prefix.min(bytes.len());
             self.last_error = Error::OutOfMemory;
-            self.bytes.extend_from_slice(&bytes[..half])?;
+            self.bytes.extend_from_slice(&bytes[..written])?;
             self.last_error = Error::WriterFailed;
             return Err(Error::WriterFailed);
         }

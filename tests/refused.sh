@@ -1,0 +1,200 @@
+#!/usr/bin/env bash
+# Runs cab and cab_show with each of their allocations, reads, writes and other calls on files refused in turn. After each
+# run it compares the fault, the status, what was printed and the files that are left with what is written here.
+set -u
+. "$(dirname "$0")/steps.sh"
+. "$root/tests/bytes.sh"
+
+shim=$work/refuse.so
+for compiler in "${CC:-cc}" gcc clang; do
+    "$compiler" -O2 -fPIC -shared -fno-builtin -o "$shim" "$root/tests/refuse.c" 2> /dev/null && break
+done
+if [ ! -f "$shim" ]; then
+    echo 'skipped: calls are refused by a library that a C compiler builds, and there is none here'
+    echo '0 passed, 0 failed'
+    exit 0
+fi
+shopt -s dotglob nullglob
+refusals=0
+
+# row NAME TEXT HEX [LINE ANSWER CHANGES]..: a document's text and archive, and the lines of a run: each with its answer and
+# the changes of the archive, as `with` takes them. After n of the lines, answers[n] were printed, and the archive is
+# states[n].
+row() {
+    row=$1 document=$2 states=("$3") answers=('') asked=
+    shift 3
+    while [ $# -gt 0 ]; do
+        printf -v "answers[${#answers[@]}]" '%s%s\n' "${answers[-1]}" "$2"
+        states+=("$(with "${states[-1]}" $3)")
+        asked=$asked$1'\n'
+        shift 3
+    done
+}
+
+# refusing KIND N PREFIX WORD..: runs a program with call N of a kind refused, counted from 1. Of a refused write PREFIX
+# bytes are written, and of none if it is empty. Sets what was printed, the faults and the number of calls of that kind.
+refusing() {
+    LD_PRELOAD=$shim REFUSE_KIND=$1 REFUSE_AT=$2 REFUSE_PREFIX=$3 REFUSE_COUNT=9 "${@:4}" < input > output 2> errors 9> count
+    ended=$?
+    calls=0
+    read -r calls < count
+    IFS= read -r -d '' printed < output
+    IFS= read -r -d '' fault < errors
+    refusals=$((refusals + 1))
+}
+
+# is_left FILE: a.cab has the bytes of a file, and there is no other file
+is_left() {
+    local names=(*)
+    cmp -s "$1" a.cab || differs "call $at leaves other bytes than $1: $fault"
+    [ "${#names[@]}" = "$files" ] || differs "call $at leaves ${names[*]}"
+}
+
+# comes_after STAGE N: what was told is of a later stage than what was told before, or of the same one and of no earlier line
+comes_after() {
+    [ $(($1 * 1000000 + $2)) -ge "$stage" ] || differs "call $at is told too early: $fault"
+    stage=$(($1 * 1000000 + $2))
+}
+
+# The fault of a build of text over an old archive.
+told_build() {
+    local left=old.cab wanted=
+    case $fault in
+        $'cab: cannot read text\n') comes_after 1 0 ;;
+        'cab: text line '*': OutOfMemory'$'\n') comes_after 2 "$(tr -cd 0-9 < errors)" ;;
+        $'cab: save: OutOfMemory\n') comes_after 3 0 ;;
+        $'cab: cannot write a.cab\n') comes_after 4 0 ;;
+        $'cab: cannot write -\n') left=new.cab wanted=any ;;
+        '') left=new.cab wanted=$built ;;
+        *) differs "call $at is told as $fault" ;;
+    esac
+    [ "$wanted" = any ] || [ "$printed" = "$wanted" ] || differs "call $at prints $printed"
+    is_left $left
+}
+
+# The fault of a run of the lines.
+told_run() {
+    local lines=0 is_prefix= is_old=
+    case $fault in
+        $'cab: cannot read a.cab\n') comes_after 1 0 ;;
+        $'cab: open: OutOfMemory\n') comes_after 2 0 ;;
+        'cab: run: '*' lines'$'\n')
+            lines=$(tr -cd 0-9 < errors)
+            comes_after 3 "$lines"
+            ;;&
+        "cab: run: OutOfMemory after "* | 'cab: run: Read after '*) ;;
+        'cab: run: Write after '*) is_prefix=yes ;;
+        $'cab: cannot write a.cab\n') lines=$all is_old=yes ;;
+        '') lines=$all ;;
+        *) differs "call $at is told as $fault" ;;
+    esac
+    case ${answers[lines]} in
+        "$printed") ;;
+        "$printed"*) [ "$is_prefix" ] || differs "call $at prints $printed" ;;
+        *) differs "call $at prints $printed" ;;
+    esac
+    is_left "state.$([ "$is_old" ] && echo 0 || echo "$lines")"
+}
+
+# The fault of showing the archive.
+told_show() {
+    case $fault in
+        $'cab: cannot read a.cab\n' | $'cab: open: OutOfMemory\n') [ -z "$printed" ] || differs "call $at prints $printed" ;;
+        $'cab: cannot write -\n') [[ $shown = "$printed"* ]] || differs "call $at prints $printed" ;;
+        '') [ "$shown" = "$printed" ] || differs "call $at prints $printed" ;;
+        *) differs "call $at is told as $fault" ;;
+    esac
+    is_left state.0
+}
+
+# each TOLD OLD WORD..: runs a program with each call of a kind refused in turn until it makes no more of them, each
+# time over an old archive. A refused read or write is always told. The program may do without some of the other calls: equal
+# shared texts need not share memory, and not every file system writes a folder to its disk. Then it does all that is asked.
+each() {
+    local told=$1 old=$2
+    shift 2
+    at=0 stage=0
+    touch a.cab output errors count
+    local names=(*)
+    files=${#names[@]}
+    while
+        at=$((at + 1))
+        cp "$old" a.cab
+        refusing "$kind" "$at" "$prefix" "$@"
+        [ "$calls" -ge "$at" ] && [ -z "$wrong" ]
+    do
+        case $kind$ended${fault:+ told} in
+            allocation0 | file0 | *'1 told') ;;
+            *) differs "call $at ends with status $ended" ;;
+        esac
+        $told
+    done
+}
+
+# Each call of a kind refused in the build of a row, in the run of its lines, and where it is shown.
+refused() {
+    local n
+    all=$((${#answers[@]} - 1))
+    kind=$1 prefix=$2
+    for program in build run show; do
+        begin "$row: each $kind${prefix:+ after $prefix bytes} of $program is refused"
+        text "$document\n"
+        for ((n = 0; n <= all; n++)); do
+            archive "${states[n]}"
+            mv a.cab "state.$n"
+        done
+        cp state.0 new.cab
+        archive "${five}bbbb"
+        mv a.cab old.cab
+        case $program in
+            build)
+                built="built $((${#states[0]} / 2))"$'\n'
+                each told_build old.cab "$cab" build text a.cab
+                prints "$built"
+                cmp -s a.cab new.cab || differs 'the archive has other bytes'
+                ;;
+            run)
+                lines "$asked"
+                each told_run state.0 "$cab" run a.cab
+                prints "${answers[all]}"
+                cmp -s a.cab "state.$all" || differs 'the archive has other bytes'
+                ;;
+            show)
+                printf -v shown "$document\n"
+                each told_show state.0 "$show" a.cab
+                prints "$document\n"
+                cmp -s a.cab state.0 || differs 'the archive was written'
+                ;;
+        esac
+        ends 0 ''
+        finish
+    done
+}
+
+# Each call of each kind.
+refused_each() {
+    refused allocation ''
+    refused read ''
+    refused write ''
+    refused write 1
+    refused write 7
+    refused file ''
+}
+
+row 'an ordered map' "ordered 2\n'coffee\nint 300\n'tea\nint 250" "$coffee" \
+    get 'ordered 2' '' "get 'tea" 'int 250' '' "set int 275 'tea" ok '80 1301' "get 'tea" 'int 275' ''
+refused_each
+row 'a hashed map in an ordered one' "ordered 1\n'eu\nhashed 1\n'vat\nlist 2\nint 7\nint 19" "$under_eu" \
+    "get 'eu 'vat #1" 'int 19' '' "set int 20 'eu 'vat #1" ok '32 14' "get 'eu 'vat #1" 'int 20' '' "get 'eu 'vat #0" 'int 7' '' \
+    "get 'eu 'vat #2" missing ''
+refused_each
+row 'shared texts' "list 2\nshared 'hello\\\\sworld!\nshared 'hello\\\\sworld!" "$twice" \
+    'get #0' "shared 'hello\\sworld!" '' 'get #1' "shared 'hello\\sworld!" '' "set text 'HELLO\\\\sWORLD! #0" refused ''
+refused_each
+row 'a kept map' "kept 2\n'z\nint 1\n'a\nint 2" "$z_and_a" \
+    keys "keys 2 'z 'a" '' "get 'a" 'int 2' '' "get 'b" missing '' 'get #0' missing '' "set int 3 'a" ok '96 03' "get 'a" 'int 3' ''
+refused_each
+
+echo "$refusals runs"
+echo "$passed passed, $failed failed"
+[ "$failed" = 0 ]
