@@ -1,6 +1,6 @@
 #!/usr/bin/env bash
 # Proves every crate and runs every test: the count of crates and of paths through crates.txt, the toolchain's merge
-# gate, and the programs on files. The last line reports how many processor minutes that took.
+# gate, and the programs on files, also where calls are refused. The last line reports how many processor minutes that took.
 set -u
 cd "$(dirname "$0")" || exit 1
 log=$(mktemp)
@@ -34,4 +34,12 @@ if ! tests/program.sh "$PWD/crates/cab/out/cab" "$PWD/crates/cab_show/out/cab_sh
     say 'a program failed'
     exit 1
 fi
+
+echo '== the programs with refused calls'
+if ! tests/refused.sh "$PWD/crates/cab/out/cab" "$PWD/crates/cab_show/out/cab_show" "$PWD/crates/cabinet_refused/out/cabinet_refused" \
+    "$PWD/crates/archive_example/out/archive_example"; then
+    say 'a refused call was not told'
+    exit 1
+fi
+
 say 'all passed'

@@ -460,6 +460,16 @@ ends 1 'cab: run: LineTooLong after 2 lines\n'
 holds a.cab "$six"
 finish
 
+begin 'lines without end'
+archive "$five"
+long_line 1048575 > line
+while cat line; do :; done 2> /dev/null | "$cab" run a.cab > output 2> errors
+ended=${PIPESTATUS[1]}
+yes bad | head -n 4095 | cmp -s - output || differs 'the answers are others'
+ends 1 'cab: run: InputTooLong after 4095 lines\n'
+holds a.cab "$five"
+finish
+
 begin 'a line that is too long, and has no end'
 archive "$five"
 head -c 3000000 /dev/zero > input
@@ -1469,6 +1479,52 @@ numbers() {
     echo "list $1"
     seq 1 "$1" | sed 's/^/int /'
 }
+
+# is_fault FORMAT: whether the only fault is one of these, each a basic regular expression
+is_fault() {
+    [ "$(wc -l < errors)" = 1 ] && grep -qx "cab: \\($1\\)" errors
+}
+
+# Below some of these limits the system does not start a program at all.
+for limit in 4000 8000 12000 16000 24000 32000 48000 64000 128000; do
+    begin "a limit of $limit KiB of memory: a build"
+    numbers 100000 > text
+    archive "${five}bbbb"
+    (ulimit -v $limit && exec "$cab" build text a.cab < input > output 2> errors)
+    ended=$?
+    if [ $ended = 0 ]; then
+        prints 'built 2400024\n'
+        ends 0 ''
+    else
+        [ $ended -gt 1 ] || is_fault 'cannot read text\|text line [0-9]*: OutOfMemory\|save: OutOfMemory\|cannot write a.cab' ||
+            differs "its faults were $(cat errors)"
+        prints ''
+        holds a.cab "${five}bbbb"
+    fi
+    leaves a.cab text
+    finish
+
+    begin "a limit of $limit KiB of memory: a run"
+    numbers 100000 > text
+    run build text a.cab
+    cp a.cab old.cab
+    sed -i '50002s/.*/int -1/' text
+    run build text new.cab
+    lines 'set int -1 #50000\n'
+    (ulimit -v $limit && exec "$cab" run a.cab < input > output 2> errors)
+    ended=$?
+    if [ $ended = 0 ]; then
+        prints 'ok\n'
+        ends 0 ''
+        cmp -s a.cab new.cab || differs 'the edit is not in the file'
+    else
+        [ $ended -gt 1 ] || is_fault 'cannot read a.cab\|open: OutOfMemory\|run: OutOfMemory after 0 lines\|cannot write a.cab' ||
+            differs "its faults were $(cat errors)"
+        cmp -s a.cab old.cab || differs 'the archive was written'
+    fi
+    leaves a.cab new.cab old.cab text
+    finish
+done
 
 # limited KIB OUTCOME WORD..: runs cab with a limit on the size of each file that it writes. If the outcome is `fails`, a
 # write past the limit fails, and else the signal of the limit ends cab.

@@ -5,6 +5,14 @@ set -u
 . "$(dirname "$0")/steps.sh"
 . "$root/tests/bytes.sh"
 
+each=$work/cabinet_refused
+example=$work/archive_example
+if [ $# -eq 0 ]; then
+    proved cabinet_refused
+    proved archive_example
+fi
+cp "${3:-$root/crates/cabinet_refused/out/cabinet_refused}" "$each" && chmod +x "$each" || exit 1
+cp "${4:-$root/crates/archive_example/out/archive_example}" "$example" && chmod +x "$example" || exit 1
 shim=$work/refuse.so
 for compiler in "${CC:-cc}" gcc clang; do
     "$compiler" -O2 -fPIC -shared -fno-builtin -o "$shim" "$root/tests/refuse.c" 2> /dev/null && break
@@ -19,13 +27,14 @@ refusals=0
 
 # row NAME TEXT HEX [LINE ANSWER CHANGES]..: a document's text and archive, and the lines of a run: each with its answer and
 # the changes of the archive, as `with` takes them. After n of the lines, answers[n] were printed, and the archive is
-# states[n].
+# states[state_of[n]].
 row() {
-    row=$1 document=$2 states=("$3") answers=('') asked=
+    row=$1 document=$2 states=("$3") state_of=(0) answers=('') asked=
     shift 3
     while [ $# -gt 0 ]; do
+        [ -z "$3" ] || states+=("$(with "${states[-1]}" $3)")
+        state_of+=($((${#states[@]} - 1)))
         printf -v "answers[${#answers[@]}]" '%s%s\n' "${answers[-1]}" "$2"
-        states+=("$(with "${states[-1]}" $3)")
         asked=$asked$1'\n'
         shift 3
     done
@@ -93,7 +102,7 @@ told_run() {
         "$printed"*) [ "$is_prefix" ] || differs "call $at prints $printed" ;;
         *) differs "call $at prints $printed" ;;
     esac
-    is_left "state.$([ "$is_old" ] && echo 0 || echo "$lines")"
+    [ "$is_old" ] && is_left state.0 || is_left "state.${state_of[lines]}"
 }
 
 # The fault of showing the archive.
@@ -139,7 +148,7 @@ refused() {
     for program in build run show; do
         begin "$row: each $kind${prefix:+ after $prefix bytes} of $program is refused"
         text "$document\n"
-        for ((n = 0; n <= all; n++)); do
+        for n in "${!states[@]}"; do
             archive "${states[n]}"
             mv a.cab "state.$n"
         done
@@ -157,7 +166,7 @@ refused() {
                 lines "$asked"
                 each told_run state.0 "$cab" run a.cab
                 prints "${answers[all]}"
-                cmp -s a.cab "state.$all" || differs 'the archive has other bytes'
+                cmp -s a.cab "state.${state_of[all]}" || differs 'the archive has other bytes'
                 ;;
             show)
                 printf -v shown "$document\n"
@@ -194,6 +203,78 @@ refused_each
 row 'a kept map' "kept 2\n'z\nint 1\n'a\nint 2" "$z_and_a" \
     keys "keys 2 'z 'a" '' "get 'a" 'int 2' '' "get 'b" missing '' 'get #0' missing '' "set int 3 'a" ok '96 03' "get 'a" 'int 3' ''
 refused_each
+
+question=$(printf ' ?%.0s' {1..64})
+row '64 options, one in the other' "$(printf 'some\\n%.0s' {1..64})int 5" "$five$(printf "$some%.0s" {1..64})" \
+    "get$question" 'int 5' '' "set int 6$question" ok '8 06' "get$question ?" missing '' "get$question" 'int 6' ''
+refused_each
+
+# more answers than wait to be written, and more lines than are read at once
+long=$(printf 'x%.0s' {1..90})
+get="text '$long"
+edited="text '${long/x/y}"
+many=()
+for n in {1..800}; do
+    case $n in
+        300) many+=("set $edited" ok '0 79') get=$edited ;;
+        780) many+=("set text '$long" ok '0 78') get="text '$long" ;;
+        *) many+=(get "$get" '') ;;
+    esac
+    [ $((n % 5)) -gt 0 ] || many+=("get$question$question" missing '')
+done
+row 'many lines' "text '$long" "$(printf '78%.0s' {1..90})$(zeros 6)020000009a0100009cffffff$(zeros 12)" "${many[@]}"
+refused_each
+
+# each_call PLACE STEP: the program that makes each call, with one of STEP allocations refused in turn
+each_call() {
+    local told=0
+    begin "one of $2 allocations of each call is refused: document $1"
+    at=1
+    while
+        refusing allocation $at '' "$each" "$1"
+        [ "$calls" -ge $at ] && [ -z "$wrong" ]
+    do
+        case $ended$printed in
+            $'016 done, 0 refused, 0 wrong\n') ;;
+            $'016 done, 1 refused, 0 wrong\n') told=$((told + 1)) ;;
+            *) differs "allocation $at: $printed" ;;
+        esac
+        at=$((at + $2))
+    done
+    prints '16 done, 0 refused, 0 wrong\n'
+    ends 0 ''
+    [ $told -gt 0 ] || differs "no refusal of $calls allocations was told"
+    finish
+}
+
+begin 'each allocation of the example is refused'
+at=1
+shown=$(< "$root/crates/archive_example/stdout")$'\n'
+while
+    refusing allocation $at '' "$example"
+    [ "$calls" -ge $at ] && [ -z "$wrong" ]
+do
+    [[ $shown = "$printed"* ]] || differs "allocation $at: it printed $printed"
+    case $ended$fault in
+        0) [ "$shown" = "$printed" ] || differs "allocation $at: it printed $printed" ;;
+        $'1Error: Archive(OutOfMemory)\n' | '1Error: Print('*$'\n') ;;
+        *) differs "allocation $at is told as $fault" ;;
+    esac
+    at=$((at + 1))
+done
+[ "$shown" = "$printed" ] || differs "it printed $printed"
+ends 0 ''
+finish
+
+for place in 0 1 2 3; do
+    each_call $place 1
+done
+for place in 4 5 6; do
+    each_call $place 2
+done
+for place in 7 8 9; do
+    each_call $place 97
+done
 
 echo "$refusals runs"
 echo "$passed passed, $failed failed"

@@ -4,10 +4,12 @@
 ghost use Rattle.std.specs.Prelude.{◌≡◌, true};
 
 pub mod archives;
+mod row;
 
 pub use archive_doubles::FailingWriter;
 pub use cabinet;
 use cabinet::{Source, SourceFailed};
+pub use row::{Edit, ROWS, Row, count_lines, line_at};
 
 /// A source that gives at most `most` bytes at a time, and fails after `reads_left` reads.
 #[derive(Drop)]

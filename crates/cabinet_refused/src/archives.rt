@@ -1,15 +1,16 @@
 //! Calls that make archives, open them and load their documents.
 
-use crate::row::{Row, copy_of, has_text};
+use crate::again::{copy_of, document_of, has_text};
 use crate::tally::Outcome;
+use cabinet_doubles::Row;
 use cabinet_doubles::cabinet::{
     OpenRefusal, Opened, SaveRefusal, Scan, check_scanned, open, open_scanned, save, to_bytes,
 };
 use std::alloc::Global;
 
 /// Makes an archive.
-pub fn makes_bytes(alloc: Global, row: &Row<'_>) -> Outcome {
-    let Some(document) = row.document(alloc) else {
+pub fn makes_bytes(alloc: Global, row: &Row<'_, '_>) -> Outcome {
+    let Some(document) = document_of(alloc, row.text) else {
         return Outcome::Wrong;
     };
     match to_bytes(alloc, &document) {
@@ -20,8 +21,8 @@ pub fn makes_bytes(alloc: Global, row: &Row<'_>) -> Outcome {
 }
 
 /// Saves a document into memory that grows.
-pub fn saves(alloc: Global, row: &Row<'_>) -> Outcome {
-    let Some(document) = row.document(alloc) else {
+pub fn saves(alloc: Global, row: &Row<'_, '_>) -> Outcome {
+    let Some(document) = document_of(alloc, row.text) else {
         return Outcome::Wrong;
     };
     let mut written = Vec::new(alloc);
@@ -44,12 +45,12 @@ fn opened_as(refusal: Option<OpenRefusal>, stands: bool) -> Outcome {
 }
 
 /// Checks an archive.
-pub fn checks<G: Scan>(alloc: Global, row: &Row<'_>) -> Outcome {
+pub fn checks<G: Scan>(alloc: Global, row: &Row<'_, '_>) -> Outcome {
     opened_as(check_scanned::<G>(alloc, row.archive).err(), true)
 }
 
 /// Opens an archive.
-pub fn opens<G: Scan>(alloc: Global, row: &Row<'_>) -> Outcome {
+pub fn opens<G: Scan>(alloc: Global, row: &Row<'_, '_>) -> Outcome {
     let Ok(mut bytes) = copy_of(alloc, row.archive) else {
         return Outcome::Wrong;
     };
@@ -58,7 +59,7 @@ pub fn opens<G: Scan>(alloc: Global, row: &Row<'_>) -> Outcome {
 }
 
 /// Loads the document of an opened archive.
-fn loads_from(alloc: Global, opened: &Opened<'_>, row: &Row<'_>) -> Outcome {
+fn loads_from(alloc: Global, opened: &Opened<'_>, row: &Row<'_, '_>) -> Outcome {
     let outcome = match opened.load(alloc) {
         Ok(document) => Outcome::succeeded(has_text(&document, row.text)),
         Err(_) => Outcome::Refused,
@@ -68,7 +69,7 @@ fn loads_from(alloc: Global, opened: &Opened<'_>, row: &Row<'_>) -> Outcome {
 }
 
 /// Loads the document of an archive, which is opened once more if memory for that is refused.
-pub fn loads(alloc: Global, row: &Row<'_>) -> Outcome {
+pub fn loads(alloc: Global, row: &Row<'_, '_>) -> Outcome {
     let Ok(mut bytes) = copy_of(alloc, row.archive) else {
         return Outcome::Wrong;
     };

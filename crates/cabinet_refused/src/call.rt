@@ -2,9 +2,9 @@
 
 use crate::archives::{checks, loads, makes_bytes, opens, saves};
 use crate::plain::{answers, reads_lines, reads_text, writes_text};
-use crate::row::Row;
 use crate::sessions::{asks, runs, works};
 use crate::tally::{Outcome, Tally};
+use cabinet_doubles::Row;
 use cabinet_doubles::cabinet::{Group1, Group8, Group16};
 use std::alloc::Global;
 
@@ -51,7 +51,7 @@ const CALLS: [Call; 16] = [
 
 impl Call {
     /// Makes the call with a document and its archive.
-    fn make(self, alloc: Global, row: &Row<'_>) -> Outcome {
+    fn make(self, alloc: Global, row: &Row<'_, '_>) -> Outcome {
         match self {
             Call::ReadText => reads_text(alloc, row),
             Call::WriteText => writes_text(alloc, row),
@@ -74,7 +74,7 @@ impl Call {
 }
 
 /// Makes each call with a document and its archive, and once more where memory was refused.
-pub fn make_each(alloc: Global, row: &Row<'_>) -> Tally {
+pub fn make_each(alloc: Global, row: &Row<'_, '_>) -> Tally {
     let mut tally = Tally::new();
     for call in CALLS {
         let outcome = call.make(alloc, row);

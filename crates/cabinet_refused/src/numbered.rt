@@ -1,8 +1,8 @@
 //! Maps whose keys are the decimal texts of the numbers below a count, each with the number 0.
 
 use crate::call::make_each;
-use crate::row::{Asked, Row};
 use crate::tally::{Outcome, Tally};
+use cabinet_doubles::Row;
 use cabinet_doubles::cabinet::{read_text, to_bytes};
 use std::alloc::{AllocError, Global};
 
@@ -13,30 +13,6 @@ pub struct Numbered {
     pub count: u32,
     pub size: usize,
 }
-
-/// Lines about such a map of at least two keys.
-const ASKED: [Asked<'static>; 4] = [
-    Asked {
-        line: b"get '1",
-        answer: b"int 0\n",
-        changes: &[],
-    },
-    Asked {
-        line: b"get 'x",
-        answer: b"missing\n",
-        changes: &[],
-    },
-    Asked {
-        line: b"set bool true '0",
-        answer: b"refused\n",
-        changes: &[],
-    },
-    Asked {
-        line: b"get '0",
-        answer: b"int 0\n",
-        changes: &[],
-    },
-];
 
 /// Returns the keys, in ascending order.
 fn keys(alloc: Global, count: u32) -> Result<Vec<String>, AllocError> {
@@ -81,7 +57,9 @@ impl Numbered {
                 let row = Row {
                     text: text.as_slice(),
                     archive: archive.as_slice(),
-                    asked: &ASKED,
+                    lines: b"get '1\nget 'x\nset bool true '0\nget '0\n",
+                    answers: b"int 0\nmissing\nrefused\nint 0\n",
+                    edit: None,
                 };
                 tally = make_each(alloc, &row);
             }

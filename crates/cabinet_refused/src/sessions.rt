@@ -1,11 +1,12 @@
 //! Calls that answer questions and carry out lines in an archive.
 
-use crate::row::{Asked, Row, copy_of, line_of};
+use crate::again::{copy_of, document_of, line_of};
+use crate::plain::begins;
 use crate::tally::Outcome;
-use cabinet_doubles::SliceSource;
 use cabinet_doubles::cabinet::{
     Count, Line, OpenRefusal, Opened, RunCause, RunFault, SaveRefusal, open, run, work,
 };
+use cabinet_doubles::{Row, SliceSource, count_lines, line_at};
 use std::alloc::Global;
 
 /// The number of bytes that a source gives at a time, so that a line does not lie whole in them.
@@ -20,26 +21,27 @@ fn carries_out(alloc: Global, opened: &mut Opened<'_>, line: &Line, wanted: &[u8
             Outcome::Done
         }
         question => match opened.ask(question, &mut written) {
-            Ok(_) => Outcome::succeeded(written.as_slice() == wanted),
-            Err(_) => Outcome::refused(wanted.starts_with(written.as_slice())),
+            Ok(_) => Outcome::succeeded(written.as_slice().strip_suffix(b"\n") == Some(wanted)),
+            Err(_) => Outcome::refused(begins(written.as_slice(), wanted)),
         },
     }
 }
 
 /// Carries out each line in an opened archive, by a call of its own.
-fn carries_out_each(alloc: Global, opened: &mut Opened<'_>, all: &[Asked<'_>]) -> Outcome {
+fn carries_out_each(alloc: Global, opened: &mut Opened<'_>, row: &Row<'_, '_>) -> Outcome {
     let mut outcome = Outcome::Done;
-    for asked in all {
-        let Some(line) = line_of(alloc, asked.line) else {
+    for index in 0..count_lines(row.lines) {
+        let Some(line) = line_of(alloc, line_at(row.lines, index)) else {
             return Outcome::Wrong;
         };
-        outcome = outcome.and(carries_out(alloc, opened, &line, asked.answer));
+        let wanted = line_at(row.answers, index);
+        outcome = outcome.and(carries_out(alloc, opened, &line, wanted));
     }
     outcome
 }
 
 /// Returns whether the bytes of an archive are those after the first lines.
-fn is_after(alloc: Global, row: &Row<'_>, count: usize, bytes: &[u8]) -> bool {
+fn is_after(alloc: Global, row: &Row<'_, '_>, count: usize, bytes: &[u8]) -> bool {
     let Ok(mut wanted) = copy_of(alloc, row.archive) else {
         return false;
     };
@@ -48,7 +50,7 @@ fn is_after(alloc: Global, row: &Row<'_>, count: usize, bytes: &[u8]) -> bool {
 }
 
 /// Returns the outcome of opening an archive that was refused.
-fn refused_as(refusal: OpenRefusal, row: &Row<'_>, bytes: &[u8]) -> Outcome {
+fn refused_as(refusal: OpenRefusal, row: &Row<'_, '_>, bytes: &[u8]) -> Outcome {
     match refusal {
         OpenRefusal::OutOfMemory => Outcome::refused(bytes == row.archive),
         _ => Outcome::Wrong,
@@ -56,22 +58,22 @@ fn refused_as(refusal: OpenRefusal, row: &Row<'_>, bytes: &[u8]) -> Outcome {
 }
 
 /// Asks each question, and sets what each edit asks for, in an opened archive.
-pub fn asks(alloc: Global, row: &Row<'_>) -> Outcome {
+pub fn asks(alloc: Global, row: &Row<'_, '_>) -> Outcome {
     let Ok(mut bytes) = copy_of(alloc, row.archive) else {
         return Outcome::Wrong;
     };
     let outcome = match open(alloc, bytes.as_mut_slice()) {
-        Ok(mut opened) => carries_out_each(alloc, &mut opened, row.asked),
+        Ok(mut opened) => carries_out_each(alloc, &mut opened, row),
         Err(refusal) => return refused_as(refusal, row, bytes.as_slice()),
     };
-    let stands = is_after(alloc, row, row.asked.len(), bytes.as_slice());
+    let stands = is_after(alloc, row, count_lines(row.lines), bytes.as_slice());
     outcome.and(Outcome::succeeded(stands))
 }
 
 /// Returns the outcome of a run by what it answered, and whether the bytes of the archive are those after its lines.
 fn ran_as(
     alloc: Global,
-    row: &Row<'_>,
+    row: &Row<'_, '_>,
     ran: Result<Count, RunFault>,
     written: &[u8],
     bytes: &[u8],
@@ -81,10 +83,10 @@ fn ran_as(
         Err(fault) => (fault.lines, fault.edits),
     };
     let count = usize::try_from(lines).unwrap_or(usize::MAX);
-    let stands = is_after(alloc, row, count, bytes) && row.edits(count) as u64 == edits;
+    let stands = is_after(alloc, row, count, bytes) && row.edits(count) == edits;
     match ran {
         Ok(_) => Outcome::succeeded(
-            stands && count == row.asked.len() && row.has_answers(written, count, false),
+            stands && count == count_lines(row.lines) && row.has_answers(written, count, false),
         ),
         Err(fault) if fault.cause == RunCause::OutOfMemory => {
             Outcome::refused(stands && row.has_answers(written, count, false))
@@ -97,11 +99,11 @@ fn ran_as(
 }
 
 /// Carries out all lines in an archive.
-pub fn runs(alloc: Global, row: &Row<'_>) -> Outcome {
-    let (Ok(lines), Ok(mut bytes)) = (row.lines(alloc), copy_of(alloc, row.archive)) else {
+pub fn runs(alloc: Global, row: &Row<'_, '_>) -> Outcome {
+    let Ok(mut bytes) = copy_of(alloc, row.archive) else {
         return Outcome::Wrong;
     };
-    let mut source = SliceSource::new(lines.as_slice(), usize::MAX, MOST);
+    let mut source = SliceSource::new(row.lines, usize::MAX, MOST);
     let mut written = Vec::new(alloc);
     let ran = match open(alloc, bytes.as_mut_slice()) {
         Ok(mut opened) => run(alloc, &mut opened, &mut source, &mut written),
@@ -111,11 +113,11 @@ pub fn runs(alloc: Global, row: &Row<'_>) -> Outcome {
 }
 
 /// Saves a document, and carries out all lines in the bytes that were saved.
-pub fn works(alloc: Global, row: &Row<'_>) -> Outcome {
-    let (Ok(lines), Some(document)) = (row.lines(alloc), row.document(alloc)) else {
+pub fn works(alloc: Global, row: &Row<'_, '_>) -> Outcome {
+    let Some(document) = document_of(alloc, row.text) else {
         return Outcome::Wrong;
     };
-    let mut source = SliceSource::new(lines.as_slice(), usize::MAX, MOST);
+    let mut source = SliceSource::new(row.lines, usize::MAX, MOST);
     let mut written = Vec::new(alloc);
     match work(alloc, &document, &mut source, &mut written) {
         Ok(worked) => ran_as(

@@ -1,9 +1,10 @@
-//! Opens archives in which one byte was changed, each byte to each other value, and prints how many of them were
-//! refused or answered and then were unchanged.
+//! Opens archives in which one byte was changed, each byte to each other value, by each scan, and prints how many of them
+//! were refused, or answered and loaded, and then were unchanged.
 #![tactic(auto)]
 
 mod spoiling;
 
+use cabinet_doubles::archives::{A_TO_WORLD, COFFEE_AND_TEA, TWO_SHARED, VAT_IN_EU, Z_AND_A};
 use spoiling::count_left;
 use std::process::ExitCode;
 
@@ -19,26 +20,16 @@ const TEXT: &[u8] =
 const LIST: &[u8] =
     b"\x01\0\0\0\0\0\0\0\x07\0\0\0\0\0\0\0\0\0\0\0\0\0\0\0\x01\0\0\0\0\0\0\0\x13\0\0\0\0\0\0\0\0\0\0\0\0\0\0\0\x05\0\0\0\xcc\xff\xff\xff\x02\0\0\0\0\0\0\0\0\0\0\0\0\0\0\0\x01\0\0\0\0\0\0\0\x05\0\0\0\0\0\0\0\0\0\0\0\0\0\0\0\x05\0\0\0\xcc\xff\xff\xff\x02\0\0\0\0\0\0\0\0\0\0\0\0\0\0\0";
 
-/// `ordered 1 / 'eu / hashed 1 / 'vat / list 2 / int 7 / int 19`.
-const MAPS: &[u8] =
-    b"\x01\0\0\0\0\0\0\0\x07\0\0\0\0\0\0\0\0\0\0\0\0\0\0\0\x01\0\0\0\0\0\0\0\x13\0\0\0\0\0\0\0\0\0\0\0\0\0\0\0\0\0\0\0\0\0\0\0\0\0\0\0\0\0\0\0\0\0\0\0\0\0\0\0\0\0\0\0\0\0\0\0vat\xff\xff\xff\xff\xff\x05\0\0\0\xa4\xff\xff\xff\x02\0\0\0\0\0\0\0\0\0\0\0\0\0\0\0\x1c\xff\x1c\xff\xff\xff\xff\xff\xff\xff\xff\xff\xff\xff\xff\xff\xff\xff\xff\xff\xff\xff\xff\xff\xff\xff\xff\xff\xff\xff\xff\0\0\0\0\0eu\xff\xff\xff\xff\xff\xff\0\0\0\0\0\0\0\0\0\0\0\0\0\0\0\0\0\0\0\0\0\0\0\0\0\0\0\0\0\0\0\0\0\0\0\0\x07\0\0\0\xac\xff\xff\xff\x01\0\0\0\x02\0\0\0\0\0\0\0\0\0\0\0\0\0\0\0\0\0\0\0\0\0\0\0\0\0\0\0\0\0\0\0\0\0\0\0\0\0\0\0\0\0\0\0\0\0\0\0\0\0\0\0\0\0\0\0\0\0\0\0\0\0\0\0\0\0\0\0\0\0\0\0\0\0\0\0\0\0\0\0\0\0\0\0\0\0\0\0\0\0\0\0\0\0\0\0\0\0\0\0\0\0\0\0\0\0\0\0\x01\0\0\0\0\0\0\0\x06\0\0\0L\xff\xff\xff\x01\0\0\0\0\0\0\0\0\0\0\0\0\0\0\0";
-
-/// `hashed 1 / 'a / text 'world`.
-const HASHED: &[u8] =
-    b"a\xff\xff\xff\xff\xff\xff\xff\x02\0\0\0world\xff\xff\xff\0\0\0\0\0\0\0\0\0\0\0\0\0\0\0\0\0\0\0\0\0\0\0\0\0\0\0\0\0\0\0\0\0\0\0\0\0\0\0\0\0\0\0\0\xffU\xffU\xff\xff\xff\xff\xff\xff\xff\xff\xff\xff\xff\xff\xff\xff\xff\xff\xff\xff\xff\xff\xff\xff\xff\xff\xff\xff\xff\0\x07\0\0\0\xdc\xff\xff\xff\x01\0\0\0\x02\0\0\0\0\0\0\0\0\0\0\0";
-
-/// `kept 2 / 'z / int 1 / 'a / int 2`.
-const KEPT: &[u8] =
-    b"\x01\0\0\0\0\0\0\0\0\0\0\0\xff\x11U\xff\x11U\xff\xff\xff\xff\xff\xff\xff\xff\xff\xff\xff\xff\xff\xff\xff\xff\xff\xff\xff\xff\xff\xff\xff\xff\xff\0\0\0\0\0z\xff\xff\xff\xff\xff\xff\xff\x01\0\0\0\0\0\0\0\x01\0\0\0\0\0\0\0\0\0\0\0\0\0\0\0a\xff\xff\xff\xff\xff\xff\xff\x01\0\0\0\0\0\0\0\x02\0\0\0\0\0\0\0\0\0\0\0\0\0\0\0\x08\0\0\0\x98\xff\xff\xff\x02\0\0\0\x03\0\0\0\xb0\xff\xff\xff\0\0\0\0";
-
 fn main(rt: HostRuntime) -> ExitCode {
     for (name, archive) in [
         ("option", OPTION),
         ("text", TEXT),
         ("list", LIST),
-        ("maps", MAPS),
-        ("hashed", HASHED),
-        ("kept", KEPT),
+        ("ordered", COFFEE_AND_TEA),
+        ("maps", VAT_IN_EU),
+        ("hashed", A_TO_WORLD),
+        ("shared", TWO_SHARED),
+        ("kept", Z_AND_A),
     ] {
         let left = count_left(rt.alloc(), archive);
         if println!(&rt; "{name}: {left} left as they were").is_err() {

@@ -1,7 +1,7 @@
 //! The number of archives with one changed byte that opening and asking leave unchanged.
 ghost use Rattle.std.specs.Prelude.{◌<◌, length};
 
-use cabinet::{Line, open};
+use cabinet_doubles::cabinet::{Group1, Group8, Group16, Line, Scan, open_scanned};
 use std::alloc::{AllocError, Global};
 
 /// Returns an archive with another value of one byte.
@@ -15,23 +15,31 @@ fn spoilt(alloc: Global, archive: &[u8], index: usize, value: u8) -> Result<Vec<
     Ok(bytes)
 }
 
-/// Returns whether bytes are refused, or a question about their document is answered.
-fn returns(alloc: Global, bytes: &mut [u8]) -> bool {
-    match open(alloc, bytes) {
-        Ok(opened) => opened
-            .ask(&Line::Get(Vec::new(alloc)), &mut Vec::new(alloc))
-            .is_ok(),
+/// Returns whether bytes are refused, or a question about their document is answered and the document is loaded.
+fn returns<G: Scan>(alloc: Global, bytes: &mut [u8]) -> bool {
+    match open_scanned::<G>(alloc, bytes) {
+        Ok(opened) => {
+            let asked = opened.ask(&Line::Get(Vec::new(alloc)), &mut Vec::new(alloc));
+            asked.is_ok() && opened.load(alloc).is_ok()
+        }
         Err(_) => true,
     }
 }
 
-/// Returns whether an archive with another value of one byte is refused or answered, and then unchanged.
+/// The same by each scan.
+fn returns_by_each(alloc: Global, bytes: &mut [u8]) -> bool {
+    returns::<Group1>(alloc, bytes)
+        && returns::<Group8>(alloc, bytes)
+        && returns::<Group16>(alloc, bytes)
+}
+
+/// Returns whether an archive with another value of one byte is refused or answered by each scan, and then unchanged.
 fn is_left(alloc: Global, archive: &[u8], index: usize, value: u8) -> Result<bool, AllocError>
     requires { index < length archive.now }
 {
     let before = spoilt(alloc, archive, index, value)?;
     let mut bytes = spoilt(alloc, archive, index, value)?;
-    Ok(returns(alloc, bytes.as_mut_slice()) && bytes.as_slice() == before.as_slice())
+    Ok(returns_by_each(alloc, bytes.as_mut_slice()) && bytes.as_slice() == before.as_slice())
 }
 
 /// Returns the number of other values of one byte with which the archive is refused or answered, and then unchanged.

@@ -14,6 +14,8 @@ mod opening;
 #[cfg(test)]
 mod refused;
 #[cfg(test)]
+mod refusing;
+#[cfg(test)]
 mod saved;
 #[cfg(test)]
 mod sessions;

@@ -69,7 +69,7 @@ fn an_image_is_loaded_as_its_document(rt: HostRuntime) -> Result<(), Fail> {
 fn an_archive_that_is_no_image_is_loaded_and_saved_as_one(rt: HostRuntime) -> Result<(), Fail> {
     let two_shared = b"list 2\nshared 'hello\\sworld!\nshared 'hello\\sworld!\n".as_slice();
     let table = sparse(rt.alloc(), 5, &[5, 37])?;
-    let mut kept = Z_AND_A;
+    let mut kept = *Z_AND_A;
     kept[132..136].copy_from_slice(&[0xaa; 4]);
     let rows = [
         (TWO_SHARED.as_slice(), two_shared),

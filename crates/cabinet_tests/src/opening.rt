@@ -4,6 +4,7 @@ mod check;
 mod keyed;
 mod made;
 mod order;
+mod prefixes;
 mod spoilt;
 mod tables;
 mod trees;

@@ -53,10 +53,10 @@ fn bytes_are_accepted_or_refused_by_their_first_fault(rt: HostRuntime) -> Result
         (&TWO, &[]),
         (&TWO_OPTIONS, &[]),
         (&SHARED, &[]),
-        (&TWO_SHARED, &[]),
+        (TWO_SHARED, &[]),
         // both texts are empty; the second text begins where the first ends
-        (&TWO_SHARED, &[(24, 0), (48, 0)]),
-        (&TWO_SHARED, &[(24, 5), (44, 0xd9), (48, 7)]),
+        (TWO_SHARED, &[(24, 0), (48, 0)]),
+        (TWO_SHARED, &[(24, 5), (44, 0xd9), (48, 7)]),
         // the pointer of a map without entries is not read
         (&EMPTY_MAP, &[]),
     ];
@@ -112,25 +112,25 @@ fn bytes_are_accepted_or_refused_by_their_first_fault(rt: HostRuntime) -> Result
             &[(20, 0xeb)],
             Error::InvalidSubtreePointer { size: 12 },
         ),
-        (&TWO_SHARED, &[(24, 11)], Error::MetadataMismatch),
-        (&TWO_SHARED, &[(48, 11)], Error::MetadataMismatch),
-        (&TWO_SHARED, &[(24, 0)], Error::MetadataMismatch),
-        (&TWO_SHARED, &[(48, 0)], Error::MetadataMismatch),
-        (&TWO_SHARED, &[(0, 0xff)], Error::InvalidUtf8),
-        (&TWO_SHARED, &[(3, 0xff)], Error::InvalidUtf8),
+        (TWO_SHARED, &[(24, 11)], Error::MetadataMismatch),
+        (TWO_SHARED, &[(48, 11)], Error::MetadataMismatch),
+        (TWO_SHARED, &[(24, 0)], Error::MetadataMismatch),
+        (TWO_SHARED, &[(48, 0)], Error::MetadataMismatch),
+        (TWO_SHARED, &[(0, 0xff)], Error::InvalidUtf8),
+        (TWO_SHARED, &[(3, 0xff)], Error::InvalidUtf8),
         (
-            &TWO_SHARED,
+            TWO_SHARED,
             &[(24, 17)],
             Error::InvalidSubtreePointer { size: 17 },
         ),
         // the last eleven bytes of the text once more, and the shared bytes as a text of its own
         (
-            &TWO_SHARED,
+            TWO_SHARED,
             &[(44, 0xd5), (48, 11)],
             Error::InvalidSubtreePointer { size: 11 },
         ),
         (
-            &TWO_SHARED,
+            TWO_SHARED,
             &[
                 (40, 2),
                 (44, 0x8c),

@@ -80,11 +80,11 @@ fn documents_are_written_as_their_images(rt: HostRuntime) -> Result<(), Fail> {
         ),
         (
             b"ordered 2\n'coffee\nint 300\n'tea\nint 250\n",
-            &COFFEE_AND_TEA,
+            COFFEE_AND_TEA,
         ),
         (
             b"ordered 6\n'a\nint 1\n'b\nint 2\n'c\nint 3\n'd\nint 4\n'e\nint 5\n'f\nint 6\n",
-            &SIX,
+            SIX,
         ),
         // The bytes of the key, then those of the value, and then the leaf.
         (
@@ -100,16 +100,16 @@ fn documents_are_written_as_their_images(rt: HostRuntime) -> Result<(), Fail> {
             b"hashed 0\n",
             b"\x07\0\0\0\x01\0\0\0\0\0\0\0\0\0\0\0\0\0\0\0\0\0\0\0",
         ),
-        (b"hashed 1\n'a\ntext 'world\n", &A_TO_WORLD),
+        (b"hashed 1\n'a\ntext 'world\n", A_TO_WORLD),
         (
             b"ordered 1\n'eu\nhashed 1\n'vat\nlist 2\nint 7\nint 19\n",
-            &VAT_IN_EU,
+            VAT_IN_EU,
         ),
         (
             b"kept 0\n",
             b"\x08\0\0\0\x01\0\0\0\0\0\0\0\0\0\0\0\x01\0\0\0\0\0\0\0",
         ),
-        (b"kept 2\n'z\nint 1\n'a\nint 2\n", &Z_AND_A),
+        (b"kept 2\n'z\nint 1\n'a\nint 2\n", Z_AND_A),
     ];
     for (text, image) in cases {
         let bytes = archive_of(rt.alloc(), text)?;

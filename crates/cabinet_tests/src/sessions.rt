@@ -95,26 +95,3 @@ fn a_failed_write_or_read_ends_the_run(rt: HostRuntime) {
         assert!(rt; bytes[8] == left);
     }
 }
-
-// Memory is allocated for the line begun, for a line's text and by the writer. An allocation may fail where a test runs
-// with little memory.
-#[test]
-fn a_refusal_of_memory_is_told(rt: HostRuntime) {
-    let mut bytes = five();
-    let mut writer = FailingWriter::new(rt.alloc(), usize::MAX, 0);
-    let source = SliceSource::new(b"set int 6\nset text 'ab\nget\n", usize::MAX, 3);
-    let output: &[u8] = b"ok\nrefused\nint 6\n";
-    match run_in(rt.alloc(), &mut bytes, source, &mut writer) {
-        Some(Ok(count)) => {
-            assert!(rt; count == (Count { lines: 3, edits: 1 }));
-            assert!(rt; writer.bytes() == output);
-        }
-        Some(Err(fault)) => {
-            assert!(rt; fault.cause == RunCause::OutOfMemory || fault.cause == RunCause::Write);
-            assert!(rt; output.starts_with(writer.bytes()));
-            let done = bytes[8] == 6;
-            assert!(rt; done == (fault.edits == 1));
-        }
-        None => panic!(rt; "the archive was refused"),
-    }
-}

@@ -70,7 +70,7 @@ fn a_leaf_under_a_key_is_set_in_its_own_bytes(rt: HostRuntime) -> Result<(), Fai
 /// them after it.
 pub fn loose() -> [u8; 207] {
     let mut bytes = [0xbb; 207];
-    bytes[..200].copy_from_slice(&COFFEE_AND_TEA);
+    bytes[..200].copy_from_slice(COFFEE_AND_TEA);
     bytes[188..200].copy_from_slice(&[0xaa; 12]);
     bytes
 }

@@ -84,9 +84,9 @@ fn answers_to(alloc: Global, archive: &[u8]) -> Result<Answers, AllocError> {
 fn archives_with_another_byte_are_answered_and_stay(rt: HostRuntime) -> Result<(), AllocError> {
     let rows = [
         (COFFEE_AND_TEA.as_slice(), 45_421, 113, 0, 5_466),
-        (&SIX, 86_338, 645, 0, 12_977),
-        (&VAT_IN_EU, 72_180, 0, 506, 15_034),
-        (&A_TO_WORLD, 21_289, 0, 254, 9_057),
+        (SIX, 86_338, 645, 0, 12_977),
+        (VAT_IN_EU, 72_180, 0, 506, 15_034),
+        (A_TO_WORLD, 21_289, 0, 254, 9_057),
     ];
     for (archive, accepted, unordered, other_tag, no_archive) in rows {
         let answers = Answers {

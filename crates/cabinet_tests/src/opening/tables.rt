@@ -63,34 +63,30 @@ fn tables_are_refused_by_their_first_fault(rt: HostRuntime) -> Result<(), AllocE
         (&A_TWICE, &[], OpenRefusal::NotFound),
         // a key that its search does not show
         (unfound.as_slice(), &[], OpenRefusal::NotFound),
+        (Z_AND_A, &[(0, 2)], OpenRefusal::Access(Error::InvalidPlace)),
         (
-            &Z_AND_A,
-            &[(0, 2)],
-            OpenRefusal::Access(Error::InvalidPlace),
-        ),
-        (
-            &Z_AND_A,
+            Z_AND_A,
             &[(124, 2)],
             OpenRefusal::Access(Error::TableLength { len: 2, cap: 2 }),
         ),
         (
-            &Z_AND_A,
+            Z_AND_A,
             &[(13, 0x12)],
             OpenRefusal::Access(Error::UnwrappedControlByte { index: 4 }),
         ),
         (
-            &Z_AND_A,
+            Z_AND_A,
             &[(128, 0xb8)],
             OpenRefusal::Access(Error::InvalidSubtreePointer { size: 64 }),
         ),
         // a control of another tag, two places that name one entry, and two that name each other's
-        (&Z_AND_A, &[(13, 0x12), (16, 0x12)], OpenRefusal::WrongTag),
-        (&Z_AND_A, &[(0, 0)], OpenRefusal::WrongTag),
-        (&Z_AND_A, &[(0, 0), (4, 1)], OpenRefusal::WrongTag),
+        (Z_AND_A, &[(13, 0x12), (16, 0x12)], OpenRefusal::WrongTag),
+        (Z_AND_A, &[(0, 0)], OpenRefusal::WrongTag),
+        (Z_AND_A, &[(0, 0), (4, 1)], OpenRefusal::WrongTag),
         // another key under the tag, and a key that only another entry has
-        (&Z_AND_A, &[(48, b'y')], OpenRefusal::WrongTag),
+        (Z_AND_A, &[(48, b'y')], OpenRefusal::WrongTag),
         (
-            &Z_AND_A,
+            Z_AND_A,
             &[(48, b'a'), (13, 0x55), (16, 0x55)],
             OpenRefusal::NotFound,
         ),
@@ -103,7 +99,7 @@ fn tables_are_refused_by_their_first_fault(rt: HostRuntime) -> Result<(), AllocE
         ),
     ];
     assert!(rt; opened_by_each(rt.alloc(), &A_TO_ONE) == [Ok(()); 3]);
-    assert!(rt; opened_by_each(rt.alloc(), &Z_AND_A) == [Ok(()); 3]);
+    assert!(rt; opened_by_each(rt.alloc(), Z_AND_A) == [Ok(()); 3]);
     for (archive, changes, refusal) in rows {
         let bytes = changed(rt.alloc(), archive, changes)?;
         assert_eq!(rt;
@@ -171,11 +167,11 @@ fn answered_by_each(
 
 #[test]
 fn questions_and_edits_in_maps_are_answered_by_each_scan(rt: HostRuntime) -> Result<(), Fail> {
-    let mut in_capitals = A_TO_WORLD;
+    let mut in_capitals = *A_TO_WORLD;
     in_capitals[12..17].copy_from_slice(b"WORLD");
-    let mut twenty = VAT_IN_EU;
+    let mut twenty = *VAT_IN_EU;
     twenty[32] = 20;
-    let mut three = Z_AND_A;
+    let mut three = *Z_AND_A;
     three[96] = 3;
     let found = sparse(rt.alloc(), 5, &[5, 37])?;
     // bytes of no field stay
@@ -184,19 +180,19 @@ fn questions_and_edits_in_maps_are_answered_by_each_scan(rt: HostRuntime) -> Res
     tea[81] = 0x01;
     let rows: [(&[u8], &[u8], &[u8], &[u8]); 5] = [
         (
-            &A_TO_WORLD,
+            A_TO_WORLD,
             b"set text 'WORLD 'a\nget 'a\nset text 'worlds 'a\nget 'a\nkeys\nget 'b\n",
             b"ok\ntext 'WORLD\nrefused\ntext 'WORLD\nwrong\nmissing\n",
             &in_capitals,
         ),
         (
-            &VAT_IN_EU,
+            VAT_IN_EU,
             b"get 'eu 'vat #1\nset int 20 'eu 'vat #1\nget 'eu 'vat #1\nget 'eu 'vat #0\nget 'eu 'vat #2\n",
             b"int 19\nok\nint 20\nint 7\nmissing\n",
             &twenty,
         ),
         (
-            &Z_AND_A,
+            Z_AND_A,
             b"get\nkeys\nget 'a\nget 'b\nget #0\nset int 3 'a\nget 'a\nget 'z\nrange 'a 'z\nset bool true 'z\nkeys 'a\n",
             b"kept 2\nkeys 2 'z 'a\nint 2\nmissing\nmissing\nok\nint 3\nint 1\nwrong\nrefused\nwrong\n",
             &three,

@@ -26,7 +26,7 @@ fn a_leaf_is_refused_by_its_first_fault(rt: HostRuntime) -> Result<(), AllocErro
         (180, 0x5c, Error::InvalidSubtreePointer { size: 168 }),
     ];
     for (index, value, error) in rows {
-        let bytes = changed(rt.alloc(), &COFFEE_AND_TEA, &[(index, value)])?;
+        let bytes = changed(rt.alloc(), COFFEE_AND_TEA, &[(index, value)])?;
         assert_eq!(rt;
             check(rt.alloc(), &bytes),
             Err(OpenRefusal::Access(error)),

@@ -1,0 +1,131 @@
+//! A document, its archive, and lines about it.
+
+use crate::archives::{COFFEE_AND_TEA, TWO_SHARED, VAT_IN_EU, Z_AND_A};
+
+/// An edit: how many lines precede it, and the bytes of the archive that it changes, each with its index.
+#[derive(Clone, Copy)]
+pub struct Edit {
+    pub line: usize,
+    pub changes: [(usize, u8); 2],
+}
+
+/// The text and the archive of a document, and lines about it with their answers. At most one line is an edit that is done.
+#[derive(Clone, Copy)]
+pub struct Row<'t, 'b> {
+    pub text: &'t [u8],
+    pub archive: &'b [u8],
+    pub lines: &'static [u8],
+    pub answers: &'static [u8],
+    pub edit: Option<Edit>,
+}
+
+/// Documents of maps, lists and shared texts.
+pub const ROWS: [Row<'static, 'static>; 4] = [
+    Row {
+        text: b"ordered 2\n'coffee\nint 300\n'tea\nint 250\n",
+        archive: COFFEE_AND_TEA,
+        lines: b"get\nget 'tea\nset int 275 'tea\nget 'tea\n",
+        answers: b"ordered 2\nint 250\nok\nint 275\n",
+        edit: Some(Edit {
+            line: 2,
+            changes: [(80, 0x13), (81, 0x01)],
+        }),
+    },
+    Row {
+        text: b"ordered 1\n'eu\nhashed 1\n'vat\nlist 2\nint 7\nint 19\n",
+        archive: VAT_IN_EU,
+        lines: b"get 'eu 'vat #1\nset int 20 'eu 'vat #1\nget 'eu 'vat #1\nget 'eu 'vat #0\nget 'eu 'vat #2\n",
+        answers: b"int 19\nok\nint 20\nint 7\nmissing\n",
+        edit: Some(Edit {
+            line: 1,
+            changes: [(32, 0x14), (32, 0x14)],
+        }),
+    },
+    Row {
+        text: b"list 2\nshared 'hello\\sworld!\nshared 'hello\\sworld!\n",
+        archive: TWO_SHARED,
+        lines: b"get #0\nget #1\nset text 'HELLO\\sWORLD! #0\n",
+        answers: b"shared 'hello\\sworld!\nshared 'hello\\sworld!\nrefused\n",
+        edit: None,
+    },
+    Row {
+        text: b"kept 2\n'z\nint 1\n'a\nint 2\n",
+        archive: Z_AND_A,
+        lines: b"keys\nget 'a\nget 'b\nget #0\nset int 3 'a\n",
+        answers: b"keys 2 'z 'a\nint 2\nmissing\nmissing\nok\n",
+        edit: Some(Edit {
+            line: 4,
+            changes: [(96, 3), (96, 3)],
+        }),
+    },
+];
+
+/// Returns the number of lines of a text.
+pub fn count_lines(text: &[u8]) -> usize {
+    let mut count: usize = 0;
+    for byte in text {
+        if *byte == b'\n' {
+            count = count.saturating_add(1);
+        }
+    }
+    count
+}
+
+/// Returns the number of bytes of the first lines of a text.
+fn end_of(text: &[u8], count: usize) -> usize {
+    let mut left = count;
+    let mut end: usize = 0;
+    for byte in text {
+        if left == 0 {
+            return end;
+        }
+        end = end.saturating_add(1);
+        if *byte == b'\n' {
+            left -= 1;
+        }
+    }
+    end
+}
+
+/// Returns the first lines of a text.
+fn first_lines(text: &[u8], count: usize) -> &[u8] {
+    &text[..end_of(text, count).min(text.len())]
+}
+
+/// Returns a line of a text, without its newline.
+pub fn line_at(text: &[u8], index: usize) -> &[u8] {
+    let start = first_lines(text, index).len();
+    let rest = &text[start.min(text.len())..];
+    let line = first_lines(rest, 1);
+    line.strip_suffix(b"\n").unwrap_or(line)
+}
+
+impl Row<'_, '_> {
+    /// Returns whether these are the answers to the first lines, and after them, if `is_cut`, not more than the answer to
+    /// the next one.
+    pub fn has_answers(&self, written: &[u8], count: usize, is_cut: bool) -> bool {
+        let whole = first_lines(self.answers, count);
+        let next = first_lines(self.answers, count.saturating_add(1));
+        written == whole || is_cut && written.starts_with(whole) && next.starts_with(written)
+    }
+
+    /// Changes the bytes of the archive as the first lines do.
+    pub fn change(&self, archive: &mut [u8], count: usize) {
+        let Some(edit) = self.edit else {
+            return;
+        };
+        for (index, value) in edit.changes {
+            if let Some(byte) = archive.get_mut(index) && edit.line < count {
+                *byte = value;
+            }
+        }
+    }
+
+    /// Returns the number of edits among the first lines.
+    pub fn edits(&self, count: usize) -> u64 {
+        match self.edit {
+            Some(edit) if edit.line < count => 1,
+            _ => 0,
+        }
+    }
+}
