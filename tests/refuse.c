@@ -1,7 +1,7 @@
 // Refuses one call of the program that it is loaded into: an allocation, a read, a write, or another call on files. When
 // the program ends, it says how many calls of that kind there were.
 //
-//   cc -O2 -fPIC -shared -o refuse.so refuse.c
+//   cc -O2 -fPIC -shared -nostdlib -fno-builtin -fno-stack-protector -o refuse.so refuse.c
 //   LD_PRELOAD=./refuse.so REFUSE_KIND=write REFUSE_AT=3 REFUSE_PREFIX=7 REFUSE_COUNT=9 PROGRAM 9> count
 //
 // REFUSE_KIND is `allocation`, `read`, `write` or `file`, and its calls are counted from 1. A refused allocation returns

@@ -15,7 +15,7 @@ cp "${3:-$root/crates/cabinet_refused/out/cabinet_refused}" "$each" && chmod +x 
 cp "${4:-$root/crates/archive_example/out/archive_example}" "$example" && chmod +x "$example" || exit 1
 shim=$work/refuse.so
 for compiler in "${CC:-cc}" gcc clang; do
-    "$compiler" -O2 -fPIC -shared -fno-builtin -o "$shim" "$root/tests/refuse.c" 2> /dev/null && break
+    "$compiler" -O2 -fPIC -shared -nostdlib -fno-builtin -fno-stack-protector -o "$shim" "$root/tests/refuse.c" 2> /dev/null && break
 done
 if [ ! -f "$shim" ]; then
     echo 'skipped: calls are refused by a library that a C compiler builds, and there is none here'

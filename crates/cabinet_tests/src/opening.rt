@@ -11,5 +11,5 @@ mod trees;
 
 pub use check::TWO_SHARED;
 pub use keyed::{FIVE_ABOVE_NONE, loose};
-pub use tables::sparse;
+pub use tables::{opened_by_each, sparse};
 pub use trees::tall;

@@ -1,4 +1,5 @@
 //! Tests of bytes that are no archive, with the first fault of each, and of options nested as deep as is allowed.
+use crate::opening::opened_by_each;
 use crate::saved::archive_of;
 use crate::sessions::{counted, run_in};
 use archive_shape_writing::Error;
@@ -62,7 +63,11 @@ fn bytes_are_accepted_or_refused_by_their_first_fault(rt: HostRuntime) -> Result
     ];
     for (archive, changes) in rows {
         let bytes = changed(rt.alloc(), archive, changes)?;
-        assert_eq!(rt; check(rt.alloc(), &bytes), Ok(()), "{changes:?}");
+        assert_eq!(rt;
+            opened_by_each(rt.alloc(), &bytes),
+            [Ok(()); 3],
+            "{changes:?}"
+        );
     }
     let behind = Error::InvalidSubtreePointer { size: 48 };
     let rows: [(&[u8], &[(usize, u8)], Error); 29] = [
@@ -153,7 +158,11 @@ fn bytes_are_accepted_or_refused_by_their_first_fault(rt: HostRuntime) -> Result
     for (archive, changes, fault) in rows {
         let bytes = changed(rt.alloc(), archive, changes)?;
         let refusal = Err(OpenRefusal::Access(fault));
-        assert_eq!(rt; check(rt.alloc(), &bytes), refusal, "{changes:?}");
+        assert_eq!(rt;
+            opened_by_each(rt.alloc(), &bytes),
+            [refusal; 3],
+            "{changes:?}"
+        );
     }
     Ok(())
 }

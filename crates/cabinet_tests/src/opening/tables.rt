@@ -24,7 +24,7 @@ const A_TWICE_KEPT: [u8; 168] =
     *b"\0\0\0\0\0\0\0\0\x02\0\0\0\x01\0\0\0U\x11\xffUU\x11\xffU\xff\xff\xff\xff\xff\xff\xff\xff\xff\xff\xff\xff\xff\xff\xff\xff\xff\xff\xff\xff\xff\xff\xff\0a\xff\xff\xff\xff\xff\xff\xff\x01\0\0\0\0\0\0\0\x01\0\0\0\0\0\0\0\0\0\0\0\0\0\0\0a\xff\xff\xff\xff\xff\xff\xff\x01\0\0\0\0\0\0\0\x02\0\0\0\0\0\0\0\0\0\0\0\0\0\0\0z\xff\xff\xff\xff\xff\xff\xff\x01\0\0\0\0\0\0\0\x03\0\0\0\0\0\0\0\0\0\0\0\0\0\0\0\x08\0\0\0|\xff\xff\xff\x03\0\0\0\x04\0\0\0\x90\xff\xff\xff\0\0\0\0";
 
 /// Opens an archive by each scan.
-fn opened_by_each(alloc: Global, bytes: &[u8]) -> [Result<(), OpenRefusal>; 3] {
+pub fn opened_by_each(alloc: Global, bytes: &[u8]) -> [Result<(), OpenRefusal>; 3] {
     [
         check_scanned::<Group1>(alloc, bytes),
         check_scanned::<Group8>(alloc, bytes),
