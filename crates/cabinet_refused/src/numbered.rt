@@ -51,20 +51,19 @@ impl Numbered {
             Some(saved) => Some(saved),
             None => self.saved(alloc),
         };
-        let mut tally = Tally::new();
-        match saved {
-            Some((text, archive)) if archive.len() == self.size => {
-                let row = Row {
-                    text: text.as_slice(),
-                    archive: archive.as_slice(),
-                    lines: b"get '1\nget 'x\nset bool true '0\nget '0\n",
-                    answers: b"int 0\nmissing\nrefused\nint 0\n",
-                    edit: None,
-                };
-                tally = make_each(alloc, &row);
-            }
-            _ => tally.count(Outcome::Wrong),
+        let Some((text, archive)) = saved else {
+            return Tally::of(Outcome::Wrong);
+        };
+        if archive.len() != self.size {
+            return Tally::of(Outcome::Wrong);
         }
-        tally
+        let row = Row {
+            text: text.as_slice(),
+            archive: archive.as_slice(),
+            lines: b"get '1\nget 'x\nset bool true '0\nget '0\n",
+            answers: b"int 0\nmissing\nrefused\nint 0\n",
+            edit: None,
+        };
+        make_each(alloc, &row)
     }
 }

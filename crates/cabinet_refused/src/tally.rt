@@ -58,6 +58,13 @@ impl Tally {
         }
     }
 
+    /// Returns the tally of one call.
+    pub fn of(outcome: Outcome) -> Tally {
+        let mut tally = Tally::new();
+        tally.count(outcome);
+        tally
+    }
+
     /// Counts a call.
     pub fn count(&mut self, outcome: Outcome) {
         let number = match outcome {
