@@ -115,7 +115,9 @@ impl Row<'_, '_> {
             return;
         };
         for (index, value) in edit.changes {
-            if let Some(byte) = archive.get_mut(index) && edit.line < count {
+            if let Some(byte) = archive.get_mut(index)
+                && edit.line < count
+            {
                 *byte = value;
             }
         }
