@@ -13,7 +13,7 @@ struct Ran {
 }
 
 /// Carries out the lines of a row, of which a source gives `most` bytes at a time.
-fn ran(
+fn carried_out(
     alloc: Global,
     row: &Row<'_, '_>,
     source: (usize, usize),
@@ -81,7 +81,7 @@ impl Ran {
 /// Returns the number of reads that fail with an unread rest of the lines, each for its cause.
 fn count_unread(alloc: Global, row: &Row<'_, '_>, most: usize) -> Result<usize, Fail> {
     for reads in 0..row.lines.len().saturating_add(2) {
-        let ran = ran(alloc, row, (reads, most), (usize::MAX, 0))?;
+        let ran = carried_out(alloc, row, (reads, most), (usize::MAX, 0))?;
         if ran.is_whole(alloc, row) {
             return Ok(reads);
         }
@@ -95,7 +95,7 @@ fn count_unread(alloc: Global, row: &Row<'_, '_>, most: usize) -> Result<usize, 
 /// Returns the number of writes that fail, each for its cause, where of a piece that fails `prefix` bytes are written.
 fn count_unwritten(alloc: Global, row: &Row<'_, '_>, prefix: usize) -> Result<usize, Fail> {
     for writes in 0..=row.answers.len() {
-        let ran = ran(alloc, row, (usize::MAX, 7), (writes, prefix))?;
+        let ran = carried_out(alloc, row, (usize::MAX, 7), (writes, prefix))?;
         if ran.is_whole(alloc, row) {
             return Ok(writes);
         }
