@@ -2,7 +2,8 @@
 # Usage: bench/text.sh [LEAVES]. Copies the texts of four documents, of 1,000,000 leaves each unless LEAVES is given,
 # with cabinet_text_copy, with bench/plain_text.rs, the same program in plain Rust, for the same processor, and, if jq
 # is installed, with jq -c . the same documents as JSON. Prints the least processor time of five runs, taken in turns,
-# the ratios, and, if valgrind is installed, the instructions for a tenth of the leaves.
+# the ratios, and, if valgrind is installed, the instructions for a tenth of the leaves. The last line is the time for
+# 30 wholes, each a list that has the one before it twice, which hold 2^30 leaves when each use is counted.
 set -eu
 leaves=${1:-1000000}
 root=$(cd "$(dirname "$0")/.." && pwd)
@@ -106,3 +107,17 @@ for kind in ordered hashed kept records; do
     printf '%-10s%8s%8s%8s%8s%8s%12s%12s%8s\n' $kind "$by_copy" "$by_plain" "$(ratio "$by_copy" "$by_plain")" \
         "$by_jq" "$(ratio "$by_copy" "$by_jq")" "$ours" "$theirs" "$(ratio "$ours" "$theirs")"
 done
+
+{
+    printf 'wholes 30\nint 1\n'
+    for ((number = 0; number < 29; number++)); do
+        printf 'list 2\nwhole %d\nwhole %d\n' $number $number
+    done
+    printf 'list 2\nwhole 29\nwhole 29\n'
+} > text
+by_copy=0
+for _ in 1 2 3 4 5; do
+    by_copy=$(least $by_copy "$(spent text "$copy")")
+    cmp text copied
+done
+printf '%-10s%8s\n' wholes "$by_copy"

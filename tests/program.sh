@@ -35,6 +35,22 @@ refuses() {
     finish
 }
 
+# unsaved NAME TEXT: a text whose document has wholes, which cab build does not save
+unsaved() {
+    begin "not saved: $1"
+    text "$2"
+    run build text new.cab
+    prints ''
+    ends 1 'cab: save: Kind\n'
+    leaves text
+    archive "${five}bbbb"
+    run build text a.cab
+    ends 1 'cab: save: Kind\n'
+    holds a.cab "${five}bbbb"
+    leaves a.cab text
+    finish
+}
+
 # answers_in HEX NAME LINES ANSWERS HEX: the answers in an archive, which then holds other bytes
 answers_in() {
     begin "$2"
@@ -138,6 +154,18 @@ refuses 'a container in 64 others' "$(printf 'some\\n%.0s' {1..65})int 1\n" 65 T
 refuses 'a map in 64 options' "$(printf 'some\\n%.0s' {1..64})ordered 0\n" 65 TooDeep
 refuses 'an option in 64 maps' "$(printf "ordered 1\\\\n'a\\\\n%.0s" {1..64})none\n" 129 TooDeep
 refuses 'a list in 64 options and maps' "$(printf "some\\\\nordered 1\\\\n'a\\\\n%.0s" {1..32})list 0\n" 97 TooDeep
+
+refuses 'a whole where there are none' 'whole 0\n' 1 UnknownWhole
+refuses 'a whole in itself' 'wholes 1\nwhole 0\nwhole 0\n' 2 UnknownWhole
+refuses 'two equal wholes' 'wholes 2\nint 5\nint 5\nlist 2\nwhole 0\nwhole 1\n' 3 RepeatedWhole
+refuses 'a whole that is not used' 'wholes 1\nint 5\nint 6\n' 3 WholeOrder
+refuses 'wholes that are numbered otherwise' 'wholes 2\nint 1\nint 2\nlist 2\nwhole 1\nwhole 0\n' 6 WholeOrder
+refuses 'wholes on a later line' 'list 1\nwholes 1\n' 2 UnknownHead
+refuses 'no wholes' 'wholes 0\nint 5\n' 1 BadNumber
+
+unsaved 'a whole at the root' 'wholes 1\nint 5\nwhole 0\n'
+unsaved 'a whole in two elements' 'wholes 1\nint 5\nlist 2\nwhole 0\nwhole 0\n'
+unsaved 'a whole in a whole' 'wholes 2\nint 1\nlist 2\nwhole 0\nwhole 0\nsome\nwhole 1\n'
 
 begin '64 options, one in the other'
 text "$(printf 'some\\n%.0s' {1..64})int 5\n"
@@ -413,11 +441,12 @@ prints ''
 ends 1 'cab: open: TooDeep\n'
 finish
 
-# of the first shared texts one reaches into the root, two lead to one position with other lengths, also where one is
+# no node has tag 9; of the first shared texts one reaches into the root, two lead to one position with other lengths, also where one is
 # empty, and one is not UTF-8; of the last, both options lead to one node
 for bytes in '' 01 "${five:2}" ff0000000000000005000000000000000000000000000000 000200000000000000000000000000000000000000000000 02000000fe6f726c64ffffff000000000000000000000000 \
     020000008100000064ffffff000000000000000000000000 \
     090000000100000000000000000000000100000000000000 \
+    "${five}09000000e4ffffff00000000000000000000000000000000" \
     03000000fcffffff01000000000000000000000000000000 "${twice:0:96}0b${twice:98}" "${empties:0:80}01${empties:82}" "ff${twice:2}" \
     "$seven${nineteen}05000000d4ffffff02000000000000000000000000000000" \
     "$seven${nineteen}05000000ceffffff01000000000000000000000000000000" \

@@ -66,15 +66,11 @@ fn archived(alloc: Global, count: i32) -> Result<(usize, usize, bool), Error> {
 #[test]
 fn maps_of_many_sizes_are_searched_and_read_back(rt: HostRuntime) {
     for count in 0..=200usize {
-        assert_eq!(rt;
-            archived(rt.alloc(), count as i32),
-            Ok((count, count, true)),
-            "{count}"
-        );
+        assert!(rt; archived(rt.alloc(), count as i32) == Ok((count, count, true)));
     }
     assert!(rt; archived(rt.alloc(), 215) == Ok((215, 215, true)));
     for count in [1, 5, 6, 17, 35, 36, 112, 215] {
-        assert_eq!(rt; leads_to_all(rt.alloc(), count), Ok(true), "{count}");
+        assert!(rt; leads_to_all(rt.alloc(), count) == Ok(true));
     }
 }
 

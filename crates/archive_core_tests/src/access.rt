@@ -50,8 +50,8 @@ fn root_lies_at_the_end_rounded_down(rt: HostRuntime) {
         (28, 24, 16),
     ];
     for (len, number, option) in rows {
-        assert_eq!(rt; root_position::<ArchivedU32>(len), number, "{len}");
-        assert_eq!(rt; root_position::<MaybeBytes>(len), option, "{len}");
+        assert!(rt; root_position::<ArchivedU32>(len) == number);
+        assert!(rt; root_position::<MaybeBytes>(len) == option);
     }
 }
 
@@ -69,7 +69,7 @@ fn bytes_that_are_lent_stay_as_they_were(rt: HostRuntime) {
             Ok(root) => Ok(root.pos()),
             Err(refusal) => Err(refusal),
         };
-        assert_eq!(rt; found, result, "{pos}");
+        assert!(rt; found == result);
         assert!(rt; lent == given);
     }
     let mut lent = spoilt;
@@ -90,10 +90,9 @@ fn position_is_checked_and_not_the_root(rt: HostRuntime) {
         (8, Err(Error::InvalidSubtreePointer { size: 8 })),
     ];
     for (pos, result) in rows {
-        assert_eq!(rt;
-            position_of(access_pos::<ArchivedOption<ArchivedU32>>(rt.alloc(), &bytes, pos)),
-            result,
-            "{pos}"
+        assert!(rt;
+            position_of(access_pos::<ArchivedOption<ArchivedU32>>(rt.alloc(), &bytes, pos))
+                == result
         );
     }
 }
@@ -116,7 +115,7 @@ fn regions_that_overlap_or_lead_on_are_refused(rt: HostRuntime) {
     ];
     for (bytes, result) in slices {
         let found = root_of::<TwoSlices>(rt.alloc(), &bytes);
-        assert_eq!(rt; found, result, "{bytes:?}");
+        assert!(rt; found == result);
     }
     let boxes = [
         (
@@ -128,7 +127,7 @@ fn regions_that_overlap_or_lead_on_are_refused(rt: HostRuntime) {
     ];
     for (bytes, result) in boxes {
         let found = root_of::<Link<Link<Link<u8>>>>(rt.alloc(), &bytes);
-        assert_eq!(rt; found, result, "{bytes:?}");
+        assert!(rt; found == result);
     }
 }
 
@@ -189,11 +188,11 @@ fn a_value_nests_as_its_pointers_do(rt: HostRuntime) {
     for (depth, number, vector, boxed) in rows {
         let alloc = rt.alloc();
         let found = check_in_depth::<ArchivedU32>(alloc, &bytes, 0, depth);
-        assert_eq!(rt; found, number, "{depth}");
+        assert!(rt; found == number);
         let found = check_in_depth::<ArchivedVec<u8>>(alloc, &bytes, 4, depth);
-        assert_eq!(rt; found, vector, "{depth}");
+        assert!(rt; found == vector);
         let found = check_in_depth::<ArchivedBox<ArchivedVec<u8>>>(alloc, &bytes, 12, depth);
-        assert_eq!(rt; found, boxed, "{depth}");
+        assert!(rt; found == boxed);
     }
 }
 
@@ -209,25 +208,21 @@ fn depth_is_limited_by_the_validator(rt: HostRuntime) {
     ];
     for (max_depth, result) in rows {
         let mut context = validator(rt.alloc(), &bytes, max_depth);
-        assert_eq!(rt;
+        assert!(rt;
             position_of(access_with_context::<MaybeBytes, HighValidator>(
                 rt.alloc(),
                 &bytes,
                 &mut context
-            )),
-            result,
-            "{max_depth}"
+            )) == result
         );
         let mut context = validator(rt.alloc(), &bytes, max_depth);
-        assert_eq!(rt;
+        assert!(rt;
             position_of(access_pos_with_context::<MaybeBytes, HighValidator>(
                 rt.alloc(),
                 &bytes,
                 12,
                 &mut context
-            )),
-            result,
-            "{max_depth}"
+            )) == result
         );
     }
 }

@@ -85,10 +85,6 @@ fn position_has_one_shape_and_one_length(rt: HostRuntime) {
         ),
     ];
     for (bytes, result) in rows {
-        assert_eq!(rt;
-            refusal::<TwoSlices>(rt.alloc(), bytes),
-            result,
-            "{bytes:?}"
-        );
+        assert!(rt; refusal::<TwoSlices>(rt.alloc(), bytes) == result);
     }
 }

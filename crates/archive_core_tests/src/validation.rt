@@ -32,11 +32,7 @@ fn depths(rt: HostRuntime) {
         (usize::MAX, 40, Ok(())),
     ];
     for (max_depth, pushes, result) in rows {
-        assert_eq!(rt;
-            nest(rt.alloc(), max_depth, pushes),
-            result,
-            "{max_depth} {pushes}"
-        );
+        assert!(rt; nest(rt.alloc(), max_depth, pushes) == result);
     }
 }
 
@@ -54,11 +50,7 @@ fn claims(rt: HostRuntime) {
     ];
     let validator = ArchiveValidator::new(rt.alloc(), b"\0\0\0\0\0\0\0\0");
     for (pos, size, result) in rows {
-        assert_eq!(rt;
-            validator.check_subtree_ptr(pos, size, 4),
-            result,
-            "{pos} {size}"
-        );
+        assert!(rt; validator.check_subtree_ptr(pos, size, 4) == result);
     }
 }
 
@@ -75,7 +67,7 @@ fn pop_of_a_range_that_is_not_the_last_push(rt: HostRuntime) -> Result<(), Error
         let mut validator = ArchiveValidator::new(rt.alloc(), b"\0\0\0\0\0\0\0\0\0\0\0\0");
         validator.push_subtree_range(4, 8)?;
         let range = PushedRange { pos, end, outer };
-        assert_eq!(rt; validator.pop_subtree_range(range), result, "{range:?}");
+        assert!(rt; validator.pop_subtree_range(range) == result);
     }
     Ok(())
 }
@@ -94,9 +86,9 @@ fn regions_that_overlap_or_run_backward_are_refused(rt: HostRuntime) {
     for (first, second, result) in rows {
         let mut validator = ArchiveValidator::new(rt.alloc(), b"\0\0\0\0\0\0\0\0\0\0\0\0");
         let before = validator.in_subtree_raw(first, 4, 1, |_: &mut ArchiveValidator| Ok(()));
-        assert_eq!(rt; before, Ok(()), "{first} {second}");
+        assert!(rt; before == Ok(()));
         let after = validator.in_subtree_raw(second, 4, 1, |_: &mut ArchiveValidator| Ok(()));
-        assert_eq!(rt; after, result, "{first} {second}");
+        assert!(rt; after == result);
     }
 }
 
@@ -109,14 +101,12 @@ fn subtrees_in_subtrees(rt: HostRuntime) {
             b"\0\0\0\0\0\0\0\0\0\0\0\0",
             max_depth,
         );
-        assert_eq!(rt;
+        assert!(rt;
             validator.in_subtree_raw(8, 4, 4, |outer: &mut ArchiveValidator| {
                 outer.in_subtree::<ArchivedI32, (), _>(4, |inner: &mut ArchiveValidator| {
                     inner.check_subtree_ptr(0, 4, 4)
                 })
-            }),
-            result,
-            "{max_depth}"
+            }) == result
         );
     }
 }

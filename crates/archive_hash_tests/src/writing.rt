@@ -70,7 +70,7 @@ fn tables_have_a_place_more_than_items_and_seven_of_eight_places_full(rt: HostRu
         (112, 4252),
         (215, 8124),
     ] {
-        assert_eq!(rt; size_of_decimals(rt.alloc(), count), Ok(size), "{count}");
+        assert!(rt; size_of_decimals(rt.alloc(), count) == Ok(size));
     }
 }
 
@@ -183,9 +183,9 @@ fn every_scan_writes_the_same_bytes(rt: HostRuntime) {
     let alloc = rt.alloc();
     for count in [0, 1, 3, 15, 16, 17, 40, 65, 215] {
         let bytes = written(alloc, count);
-        assert!(rt; written_by::<Group1>(alloc, count) == bytes, "{count}");
-        assert!(rt; written_by::<Group8>(alloc, count) == bytes, "{count}");
-        assert!(rt; written_by::<Group16>(alloc, count) == bytes, "{count}");
+        assert!(rt; written_by::<Group1>(alloc, count) == bytes);
+        assert!(rt; written_by::<Group8>(alloc, count) == bytes);
+        assert!(rt; written_by::<Group16>(alloc, count) == bytes);
     }
 }
 
@@ -254,9 +254,9 @@ fn is_set_read_back(alloc: Global, count: u32) -> Result<bool, Error> {
 #[test]
 fn maps_and_sets_of_many_sizes_are_read_back(rt: HostRuntime) {
     for count in [0, 1, 5, 6, 17, 35, 36, 112, 215, 2_000] {
-        assert_eq!(rt; is_read_back(rt.alloc(), count), Ok(true), "{count}");
-        assert_eq!(rt; leads_to_all(rt.alloc(), count), Ok(true), "{count}");
-        assert_eq!(rt; is_set_read_back(rt.alloc(), count), Ok(true), "{count}");
+        assert!(rt; is_read_back(rt.alloc(), count) == Ok(true));
+        assert!(rt; leads_to_all(rt.alloc(), count) == Ok(true));
+        assert!(rt; is_set_read_back(rt.alloc(), count) == Ok(true));
     }
 }
 
@@ -285,10 +285,9 @@ fn wrong_claims_and_load_factors_are_refused(rt: HostRuntime) {
     }
     assert!(rt; claiming(alloc, 3, 3, (8, 8)) == Ok(HashTableResolver::from_pos(Some(32))));
     for (expected, actual) in [(3, 2), (0, 1), (1, 3)] {
-        assert_eq!(rt;
-            claiming(alloc, expected, actual as u32, (7, 8)),
-            Err(Error::IteratorLengthMismatch { expected, actual }),
-            "{expected} for {actual}"
+        assert!(rt;
+            claiming(alloc, expected, actual as u32, (7, 8))
+                == Err(Error::IteratorLengthMismatch { expected, actual })
         );
     }
     assert!(rt; claiming_keys(alloc, 3, 3) == Ok(HashTableResolver::from_pos(Some(16))));

@@ -1,7 +1,7 @@
 -- A question does no edit.
 use Rattle.std.proofs.Common.{◌≡◌, ℕ, List, Option, Some, None, refl}
 use Rattle.cabinet_text_grammar.specs.Keys.{ordered, hashed, kept}
-use Rattle.cabinet_text_grammar.specs.Tree.{Tree, leaf, shared, nothing, just, list, map}
+use Rattle.cabinet_text_grammar.specs.Tree.{Tree, leaf, shared, nothing, just, list, map, whole}
 use Rattle.cabinet_text_grammar.specs.Path.{node_at}
 use Rattle.cabinet_text_grammar.specs.Line.{Line, get, keys, range, set}
 use Rattle.cabinet_text_grammar.specs.Answering.{Answer, answer, head, head_of, if_there, keys_of, keys_within}
@@ -21,6 +21,7 @@ keys_done (list ts) = refl
 keys_done (map ordered ps) = refl
 keys_done (map hashed ps) = refl
 keys_done (map kept ps) = refl
+keys_done (whole u) = refl
 
 within_done : (low high : List ℕ) (t : Tree) → one_if_done (keys_within low high t) ≡ 0
 within_done low high (leaf l) = refl
@@ -31,6 +32,7 @@ within_done low high (list ts) = refl
 within_done low high (map ordered ps) = refl
 within_done low high (map hashed ps) = refl
 within_done low high (map kept ps) = refl
+within_done low high (whole u) = refl
 
 pub question_done : (t : Tree) (line : Line) → IsQuestion line → one_if_done (answer t line) ≡ 0
 question_done t (get path) h = none_done (node_at t path) (λ u. head (head_of u)) (λ u. refl)

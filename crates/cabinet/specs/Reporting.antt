@@ -23,7 +23,10 @@ cause_name cause.KeyOrder = codes "KeyOrder"
 cause_name cause.KeyRepeated = codes "KeyRepeated"
 cause_name cause.UnknownHead = codes "UnknownHead"
 cause_name cause.BadNumber = codes "BadNumber"
+cause_name cause.UnknownWhole = codes "UnknownWhole"
 cause_name cause.TooDeep = codes "TooDeep"
+cause_name cause.RepeatedWhole = codes "RepeatedWhole"
+cause_name cause.WholeOrder = codes "WholeOrder"
 cause_name cause.LineAfterEnd = codes "LineAfterEnd"
 cause_name cause.OutOfMemory = codes "OutOfMemory"
 
@@ -31,6 +34,7 @@ abbrev pub save_refusal_name : SaveRefusal → List ℕ
 save_refusal_name (save_refusal.Limit e) = codes "Limit"
 save_refusal_name (save_refusal.Writer e) = codes "Writer"
 save_refusal_name save_refusal.OutOfMemory = codes "OutOfMemory"
+save_refusal_name save_refusal.Kind = codes "Kind"
 
 abbrev pub open_refusal_name : OpenRefusal → List ℕ
 open_refusal_name (open_refusal.Access e) = codes "Access"

@@ -54,7 +54,10 @@ fn name_of_cause(cause: Cause) -> &'static [u8]
         Cause::KeyRepeated => b"KeyRepeated",
         Cause::UnknownHead => b"UnknownHead",
         Cause::BadNumber => b"BadNumber",
+        Cause::UnknownWhole => b"UnknownWhole",
         Cause::TooDeep => b"TooDeep",
+        Cause::RepeatedWhole => b"RepeatedWhole",
+        Cause::WholeOrder => b"WholeOrder",
         Cause::LineAfterEnd => b"LineAfterEnd",
         Cause::OutOfMemory => b"OutOfMemory",
     }
@@ -67,6 +70,7 @@ fn name_of_save_refusal(refusal: &SaveRefusal) -> &'static [u8]
         SaveRefusal::Limit(_) => b"Limit",
         SaveRefusal::Writer(_) => b"Writer",
         SaveRefusal::OutOfMemory => b"OutOfMemory",
+        SaveRefusal::Kind => b"Kind",
     }
 }
 

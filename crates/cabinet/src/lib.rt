@@ -16,10 +16,10 @@ pub use cabinet_archives::{OpenRefusal, SaveRefusal, check, check_scanned, load,
 pub use cabinet_documents as documents;
 pub use cabinet_text_grammar::Cause;
 pub use cabinet_text_nodes::{
-    Asked, Document, DocumentRefusal, Kind, Leaf, LeafRef, Line, LineRefusal, Node, SetAnswer, Step,
+    Asked, Document, DocumentRefusal, Kind, Leaf, LeafRef, Line, LineRefusal, Node, SetAnswer,
+    Step, write_text,
 };
 pub use cabinet_text_reading::{TextRefusal, read_line, read_text};
-pub use cabinet_text_writing::write_text;
 pub use fault::{Fault, fault_line};
 pub use opened::{Opened, open, open_scanned};
 pub use session::{Count, RunCause, RunFault, run};

@@ -185,7 +185,7 @@ module _ (r : NodeResolver) (bytes set_bytes new final : List ℕ) (start pos fr
       subst (λ n. Resolves (payload_spelling tag n 24 w) node_shape x (get r) pos start bytes final result) (sym place.at) behind
 
   -- of each node with the tree
-  as_tree : (n : Node) (t : Tree) → node_tree n ≡ t → Resolves node_spelling node_shape t r pos start bytes final result → Resolves archived_as node_shape n r pos start bytes final result
+  as_tree : (n : Node) (t : Tree) → node_tree [] n ≡ t → Resolves node_spelling node_shape t r pos start bytes final result → Resolves archived_as node_shape n r pos start bytes final result
   as_tree n t is h = subst (λ u. Resolves node_spelling node_shape u r pos start bytes final result) (sym is) h
 
   pub truth_resolved :
@@ -195,7 +195,7 @@ module _ (r : NodeResolver) (bytes set_bytes new final : List ℕ) (start pos fr
       → Resolves archived_as node_shape n r pos start bytes final result
   truth_resolved n b is is_set is_from is_there h =
       let t = tree.leaf (tree.truth b) in
-      as_tree n t (ap node_tree is ∙ node_tree-bool b)
+      as_tree n t (ap (node_tree []) is ∙ node_tree-bool [] b)
       (kind_resolved 0 1 truth truth_spelling (λ _. resolver.Leaf) (λ _. tt) truth_place b t (λ q p f. f.1) is_set is_from is_there tt refl h)
 
   pub number_resolved :
@@ -205,7 +205,7 @@ module _ (r : NodeResolver) (bytes set_bytes new final : List ℕ) (start pos fr
       → Resolves archived_as node_shape n r pos start bytes final result
   number_resolved n z is is_set is_from is_there h =
       let t = tree.leaf (tree.number z) in
-      as_tree n t (ap node_tree is ∙ node_tree-int z)
+      as_tree n t (ap (node_tree []) is ∙ node_tree-int [] z)
       (kind_resolved 1 8 (number w64 true) number_spelling (λ _. resolver.Leaf) (λ _. tt) number_place z t (λ q p f. f.1) is_set is_from is_there tt refl h)
 
   pub text_resolved :
@@ -217,7 +217,7 @@ module _ (r : NodeResolver) (bytes set_bytes new final : List ℕ) (start pos fr
   text_resolved n s is is_set is_from is_there k is_in h =
       let x = string_bytes s in
       let t = tree.leaf (tree.text x) in
-      as_tree n t (ap node_tree is ∙ node_tree-text s)
+      as_tree n t (ap (node_tree []) is ∙ node_tree-text [] s)
       (kind_resolved 2 4 text str_spelling resolver.Text text_in text_place x t (λ q p f. (text_spells (first_fit (λ _. 0)) KnowsNode x).sized q.pos p f) is_set is_from is_there k is_in h)
 
   pub shared_resolved :
@@ -229,7 +229,7 @@ module _ (r : NodeResolver) (bytes set_bytes new final : List ℕ) (start pos fr
   shared_resolved n s is is_set is_from is_there k is_in h =
       let x = rc_str_bytes s in
       let t = tree.shared x in
-      as_tree n t (ap node_tree is ∙ node_tree-shared s)
+      as_tree n t (ap (node_tree []) is ∙ node_tree-shared [] s)
       (kind_resolved 3 4 (shared_shape false str) shared_string_spelling resolver.Shared shared_in shared_place x t
       (λ q p f. (shared_text_spells (first_fit (λ _. 0)) false KnowsNode text_key x).sized q.pos p f) is_set is_from is_there k is_in h)
 
@@ -267,8 +267,8 @@ module _ (r : NodeResolver) (bytes set_bytes new final : List ℕ) (start pos fr
           (λ q p f. (option_spells fit boxed_shape KnowsNode (boxed_spelling node_spelling) boxes x).sized q p f) is_set is_from is_there k is_in h)
 
       by : (o : Option (Box Node Global)) → n ≡ node.Maybe o → Resolves (maybe_spelling node_spelling) (option boxed_shape) (tree_within o) k there from set_bytes new result → Resolves archived_as node_shape n r pos start bytes final result
-      by None is h = as_tree n tree.nothing (ap node_tree is ∙ node_tree-none) (inside None tree.nothing h)
-      by (Some b) is h = let t = tree.just (node_tree b.value) in as_tree n t (ap node_tree is ∙ node_tree-some b) (inside (Some (node_tree b.value)) t h)
+      by None is h = as_tree n tree.nothing (ap (node_tree []) is ∙ node_tree-none []) (inside None tree.nothing h)
+      by (Some b) is h = let t = tree.just (node_tree [] b.value) in as_tree n t (ap (node_tree []) is ∙ node_tree-some [] b) (inside (Some (node_tree [] b.value)) t h)
 
   pub list_resolved :
       (n : Node) (v : Vec Node Global) → n ≡ node.List v
@@ -278,9 +278,9 @@ module _ (r : NodeResolver) (bytes set_bytes new final : List ℕ) (start pos fr
       → Resolves archived_as node_shape n r pos start bytes final result
   list_resolved n v is is_set is_from is_there k is_in h =
       let fit = first_fit (λ _. 0) in
-      let t = tree.list (node_trees v.items) in
+      let t = tree.list (node_trees [] v.items) in
       let x = trees_within v.items in
-      as_tree n t (ap node_tree is ∙ node_tree-list v)
+      as_tree n t (ap (node_tree []) is ∙ node_tree-list [] v)
       (kind_resolved 5 4 (vector node_shape) (list_spelling node_spelling) resolver.List list_in list_place x t
       (λ q p f. (slice_spells fit node_shape KnowsNode node_spelling (node_spells_law fit) x).sized q.pos p f) is_set is_from is_there k is_in h)
 
@@ -292,9 +292,9 @@ module _ (r : NodeResolver) (bytes set_bytes new final : List ℕ) (start pos fr
       → Resolves archived_as node_shape n r pos start bytes final result
   ordered_resolved n b is is_set is_from is_there k is_in h =
       let fit = first_fit (λ _. 0) in
-      let t = tree.map ordered (node_pairs b.entries) in
+      let t = tree.map ordered (node_pairs [] b.entries) in
       let x = pairs_within b.entries in
-      as_tree n t (ap node_tree is ∙ node_tree-ordered b)
+      as_tree n t (ap (node_tree []) is ∙ node_tree-ordered [] b)
       (kind_resolved 6 4 (tree_shape 5 text node_shape) (ordered_spelling node_spelling) resolver.Ordered ordered_in ordered_place x t
       (λ q p f. (map_spells fit 5 text node_shape KnowsNode str_spelling node_spelling (λ y. kept_spells_at fit text KnowsNode _ _ (λ z. refl) text_spelling y (text_spells fit KnowsNode y)) (node_spells_law fit) x (λ _. omega arith)).sized q.pos p f) is_set is_from is_there k is_in h)
 
@@ -305,9 +305,9 @@ module _ (r : NodeResolver) (bytes set_bytes new final : List ℕ) (start pos fr
       → Resolves (hashed_spelling node_spelling) (table pair_shape) (pairs_within b.entries) k there from set_bytes new result
       → Resolves archived_as node_shape n r pos start bytes final result
   hashed_resolved n b is is_set is_from is_there k is_in h =
-      let t = tree.map hashed (node_pairs b.entries) in
+      let t = tree.map hashed (node_pairs [] b.entries) in
       let x = pairs_within b.entries in
-      as_tree n t (ap node_tree is ∙ node_tree-hashed b)
+      as_tree n t (ap (node_tree []) is ∙ node_tree-hashed [] b)
       (kind_resolved 7 4 (table pair_shape) (hashed_spelling node_spelling) resolver.Hashed hashed_in hashed_place x t
       (λ q p f. length-own q.pos p _ _) is_set is_from is_there k is_in h)
 
@@ -318,9 +318,9 @@ module _ (r : NodeResolver) (bytes set_bytes new final : List ℕ) (start pos fr
       → Resolves (kept_spelling node_spelling) (index_map text node_shape) (pairs_within v.items) k there from set_bytes new result
       → Resolves archived_as node_shape n r pos start bytes final result
   kept_resolved n v is is_set is_from is_there k is_in h =
-      let t = tree.map kept (node_pairs v.items) in
+      let t = tree.map kept (node_pairs [] v.items) in
       let x = pairs_within v.items in
-      as_tree n t (ap node_tree is ∙ node_tree-kept v)
+      as_tree n t (ap (node_tree []) is ∙ node_tree-kept [] v)
       (kind_resolved 8 4 (index_map text node_shape) (kept_spelling node_spelling) resolver.Kept kept_in kept_place x t
       (λ q p f. length-both q.table.pos q.entries p (p + 12) _ _) is_set is_from is_there k is_in h)
 
@@ -328,4 +328,4 @@ module _ (r : NodeResolver) (bytes set_bytes new final : List ℕ) (start pos fr
 pub text_made : (n : Node) (s : String Global) (r : NodeResolver) (k : StringResolver) → n ≡ node.Text s → k ≡ text_in r
     → (st : State) × (r ≡ archived_as.resolver n st) → (st : State) × (k ≡ str_spelling.resolver (string_bytes s) st)
 text_made n s r k is is_in made =
-    (made.0, is_in ∙ ap text_in (made.1 ∙ ap (λ t. node_spelling.resolver t made.0) (ap node_tree is ∙ node_tree-text s)))
+    (made.0, is_in ∙ ap text_in (made.1 ∙ ap (λ t. node_spelling.resolver t made.0) (ap (node_tree []) is ∙ node_tree-text [] s)))

@@ -1,5 +1,5 @@
 -- What is written of a node, by its kind.
-use Rattle.std.proofs.Common.{◌≡◌, ℕ, zero, suc, ◌+◌, ◌-◌, ◌≤◌, ◌<◌, ◌^◌, ◌⊎◌, List, [], ◌∷◌, ◌++◌, length, map, get_or, Option, Some, None, Result, Ok, Err, refl, sym, ap, ap₂, subst, ◌∙◌, arith, Global, String, Box, Vec}
+use Rattle.std.proofs.Common.{◌≡◌, ℕ, zero, suc, ◌+◌, ◌-◌, ◌≤◌, ◌<◌, ◌^◌, ◌⊎◌, inr, List, [], ◌∷◌, ◌++◌, length, map, get_or, Option, Some, None, Result, Ok, Err, refl, sym, ap, ap₂, subst, ◌∙◌, arith, Global, String, Box, Vec}
 use Rattle.std.specs.Prelude.{string_bytes}
 use Rattle.std.specs.Int.{w32, to_le_bytes}
 use Rattle.std.specs.Rc.{rc_str_bytes}
@@ -12,8 +12,9 @@ use Rattle.archive_shape_layout.specs.Value.Values.{more_values}
 use Rattle.archive_forms_laws.specs.ShapeCanonical.Settled.{Fit}
 use Rattle.archive_shape.specs.Bytes.{zeros}
 use Rattle.archive_shape_writing.specs.Writing.{WriterMembers}
+use Rattle.archive_shape_writing.proofs.Joined.{cut_none}
 use Rattle.archive_shape_writing.specs.declared.error.Error.{Error}
-use Rattle.archive_shape_writing.specs.declared.error.Error.TheVariants.{IsizeOverflow, LengthTooLarge, PositionTooLarge}
+use Rattle.archive_shape_writing.specs.declared.error.Error.TheVariants.{InvalidTag, IsizeOverflow, LengthTooLarge, PositionTooLarge}
 use Rattle.archive_forms_laws.specs.State.{State, Keys}
 use Rattle.archive_forms_laws.specs.Spelling.{Spelling, state_after}
 use Rattle.archive_forms_laws.specs.Forms.{seen_as, kept_as}
@@ -56,10 +57,10 @@ use Rattle.cabinet_documents.specs.declared.spelling.resolver.NodeResolver.TheVa
 use Rattle.cabinet_documents.specs.Spelling.{maybe_spelling, list_spelling, ordered_spelling, pair_spelling, hashed_spelling, kept_spelling, trees_in, node_level, node_spelling}
 use Rattle.cabinet_documents.proofs.Agreeing.{one_level_is_written_law}
 use Rattle.cabinet_archived.specs.Archived.{archived_as, tree_within, trees_within, most_within, pairs_within, most_in_pairs}
-use Rattle.cabinet_text_nodes.specs.View.{trees_of, node_tree, node_trees, node_pairs}
+use Rattle.cabinet_text_nodes.specs.View.{trees_of, no_tree, node_tree, node_trees, node_pairs}
 use Rattle.cabinet_text_nodes.specs.declared.node.Node.{Node}
 use Rattle.cabinet_text_nodes.specs.declared.node.Node.TheVariants as node
-use Rattle.cabinet_text_nodes.proofs.Views.{node_tree-text, node_tree-shared, node_tree-none, node_tree-some, node_tree-list, node_tree-ordered, node_tree-hashed, node_tree-kept}
+use Rattle.cabinet_text_nodes.proofs.Views.{node_tree-text, node_tree-shared, node_tree-none, node_tree-some, node_tree-list, node_tree-ordered, node_tree-hashed, node_tree-kept, node_tree-whole}
 use Rattle.archive_forms_writing.specs.Owned.{str_spelling, string_spelling}
 
 -- ---- a list of values that are seen as others is archived as the list of those
@@ -125,28 +126,28 @@ abbrev nodes_spelling : Spelling (List Node) VecResolver
 nodes_spelling = kept_as (λ n. record { pos = n }) (λ r. r.pos) (slice_spelling node_shape archived_as)
 
 abbrev maps_spelling : Spelling (List Node) VecResolver
-maps_spelling = seen_as (map node_tree) (list_spelling node_spelling)
+maps_spelling = seen_as (map (node_tree [])) (list_spelling node_spelling)
 
 nodes_said : (ns : List Node) → said nodes_spelling ns ≡ said maps_spelling ns
 nodes_said ns = λ i. record {
-  value = λ st. group (values_seen node_tree node_spelling ns st i);
-  plain = group (plains_seen node_tree node_spelling ns i);
+  value = λ st. group (values_seen (node_tree []) node_spelling ns st i);
+  plain = group (plains_seen (node_tree []) node_spelling ns i);
   piece = λ st.
-      let start = regions_seen node_tree node_spelling node_shape ns st i in
-      pieces_seen node_tree node_spelling ns st i ++ (zeros (start - (states_seen node_tree node_spelling ns st i).pos) ++ owns_seen node_tree node_spelling ns st start i);
-  resolver = λ st. record { pos = regions_seen node_tree node_spelling node_shape ns st i };
-  met = λ st. (states_seen node_tree node_spelling ns st i).met;
-  own = λ r pos. offset_bytes pos r.pos ++ to_le_bytes w32 (sym (length-seen node_tree node_spelling ns) i);
+      let start = regions_seen (node_tree []) node_spelling node_shape ns st i in
+      pieces_seen (node_tree []) node_spelling ns st i ++ (zeros (start - (states_seen (node_tree []) node_spelling ns st i).pos) ++ owns_seen (node_tree []) node_spelling ns st start i);
+  resolver = λ st. record { pos = regions_seen (node_tree []) node_spelling node_shape ns st i };
+  met = λ st. (states_seen (node_tree []) node_spelling ns st i).met;
+  own = λ r pos. offset_bytes pos r.pos ++ to_le_bytes w32 (sym (length-seen (node_tree []) node_spelling ns) i);
   piece_fits = λ st.
-      let start = regions_seen node_tree node_spelling node_shape ns st i in
-      fits_seen node_tree node_spelling ns st i × (start < 2 ^ 32) × owns_fit_seen node_tree node_spelling node_shape ns st start i;
+      let start = regions_seen (node_tree []) node_spelling node_shape ns st i in
+      fits_seen (node_tree []) node_spelling ns st i × (start < 2 ^ 32) × owns_fit_seen (node_tree []) node_spelling node_shape ns st start i;
   piece_refused = λ st e.
-      let start = regions_seen node_tree node_spelling node_shape ns st i in
-      refusals_seen node_tree node_spelling ns st e i
-      ⊎ (((2 ^ 32 ≤ start) × (e ≡ PositionTooLarge)) ⊎ owns_refusals_seen node_tree node_spelling node_shape ns st start e i);
-  own_fits = λ r pos. FitsOffset pos r.pos × (sym (length-seen node_tree node_spelling ns) i < 2 ^ 32);
-  own_refused = λ r pos e. ((FitsOffset pos r.pos → ⊥) × (e ≡ IsizeOverflow)) ⊎ ((2 ^ 32 ≤ sym (length-seen node_tree node_spelling ns) i) × (e ≡ LengthTooLarge));
-  suits = λ fit keys. suits_seen node_tree node_spelling ns fit keys i;
+      let start = regions_seen (node_tree []) node_spelling node_shape ns st i in
+      refusals_seen (node_tree []) node_spelling ns st e i
+      ⊎ (((2 ^ 32 ≤ start) × (e ≡ PositionTooLarge)) ⊎ owns_refusals_seen (node_tree []) node_spelling node_shape ns st start e i);
+  own_fits = λ r pos. FitsOffset pos r.pos × (sym (length-seen (node_tree []) node_spelling ns) i < 2 ^ 32);
+  own_refused = λ r pos e. ((FitsOffset pos r.pos → ⊥) × (e ≡ IsizeOverflow)) ⊎ ((2 ^ 32 ≤ sym (length-seen (node_tree []) node_spelling ns) i) × (e ≡ LengthTooLarge));
+  suits = λ fit keys. suits_seen (node_tree []) node_spelling ns fit keys i;
 }
 
 -- the elements of a list of trees are these trees
@@ -157,7 +158,7 @@ trees_in-trees_of (t ∷ ts) = ap (λ us. t ∷ us) (trees_in-trees_of ts)
 module _ {W : Type 0} (m : WriterMembers W) (ns : List Node) (old new : W) where
   in_trees : (result : Result VecResolver Error) → Serializes nodes_spelling m ns old new result → Serializes (list_spelling node_spelling) m (trees_within ns) old new result
   in_trees result h =
-      subst (λ ts. Serializes (list_spelling node_spelling) m ts old new result) (sym (trees_in-trees_of (map node_tree ns)))
+      subst (λ ts. Serializes (list_spelling node_spelling) m ts old new result) (sym (trees_in-trees_of (map (node_tree []) ns)))
       (serializes_alike nodes_spelling maps_spelling ns (nodes_said ns) m old new result h)
 
   pub list_written : (pos : ℕ) → Serializes (slice_spelling node_shape archived_as) m ns old new (Ok pos) → Serializes (list_spelling node_spelling) m (trees_within ns) old new (Ok (record { pos = pos }))
@@ -184,9 +185,9 @@ module _ {A B R Q : Type 0} (w : Spelling A R) (u : Spelling B R) (x : A) (y : B
     suits = (alike i).suits;
   }
 
-pairs_are : (ps : List (String Global × Node)) → map (seen_entry string_bytes node_tree) ps ≡ pairs_within ps
+pairs_are : (ps : List (String Global × Node)) → map (seen_entry string_bytes (node_tree [])) ps ≡ pairs_within ps
 pairs_are [] = refl
-pairs_are (p ∷ ps) = ap (λ qs. (string_bytes p.0, node_tree p.1) ∷ qs) (pairs_are ps)
+pairs_are (p ∷ ps) = ap (λ qs. (string_bytes p.0, node_tree [] p.1) ∷ qs) (pairs_are ps)
 
 abbrev pairs_spelling : Spelling (List (String Global × Node)) BTreeMapResolver
 pairs_spelling = entries_spelling 5 text node_shape string_spelling archived_as
@@ -196,11 +197,11 @@ pub pairs_written :
     → Serializes pairs_spelling m ps old new result
     → Serializes (ordered_spelling node_spelling) m (pairs_within ps) old new result
 pairs_written m ps old new result h =
-    let xs = map (seen_entry string_bytes node_tree) ps in
-    let seen = btree_seen 5 text node_shape string_bytes node_tree str_spelling node_spelling ps in
+    let xs = map (seen_entry string_bytes (node_tree [])) ps in
+    let seen = btree_seen 5 text node_shape string_bytes (node_tree []) str_spelling node_spelling ps in
     let alike = kept_alike (btree_spelling 5 text node_shape string_spelling archived_as) (btree_spelling 5 text node_shape str_spelling node_spelling) ps xs seen (λ o. record { pos = o }) (λ r. r.pos) in
     subst (λ qs. Serializes (ordered_spelling node_spelling) m qs old new result) (pairs_are ps)
-    (serializes_alike pairs_spelling (seen_as (map (seen_entry string_bytes node_tree)) (ordered_spelling node_spelling)) ps alike m old new result h)
+    (serializes_alike pairs_spelling (seen_as (map (seen_entry string_bytes (node_tree []))) (ordered_spelling node_spelling)) ps alike m old new result h)
 
 -- by the hashes of what its keys feed to a hasher
 abbrev key_hash : String Global → ℕ
@@ -209,7 +210,7 @@ key_hash k = input_hash (fed.str (string_bytes k))
 abbrev table_of_pairs : Spelling (List (String Global × Node)) HashTableResolver
 table_of_pairs = table.entries_spelling key_hash text node_shape string_spelling archived_as
 
-hashes_are : (ps : List (String Global × Node)) → map (λ e. key_hash e.0) ps ≡ map (λ p. text_hash p.0) (map (seen_entry string_bytes node_tree) ps)
+hashes_are : (ps : List (String Global × Node)) → map (λ e. key_hash e.0) ps ≡ map (λ p. text_hash p.0) (map (seen_entry string_bytes (node_tree [])) ps)
 hashes_are [] = refl
 hashes_are (p ∷ ps) = ap₂ (λ h hs. h ∷ hs) (sym (text_fed (string_bytes p.0))) (hashes_are ps)
 
@@ -218,7 +219,7 @@ pub table_written :
     → Serializes table_of_pairs m ps old new result
     → Serializes (hashed_spelling node_spelling) m (pairs_within ps) old new result
 table_written m ps old new result h =
-    let view = seen_entry string_bytes node_tree in
+    let view = seen_entry string_bytes (node_tree []) in
     let xs = map view ps in
     let own = tuple2_spelling text string_spelling node_shape archived_as in
     let seen = ap (λ hs. said (items_spelling 7 8 pair_shape own hs) ps) (hashes_are ps)
@@ -235,7 +236,7 @@ pub index_written :
     → Serializes index_of_pairs m ps old new result
     → Serializes (kept_spelling node_spelling) m (pairs_within ps) old new result
 index_written m ps old new result h =
-    let view = seen_entry string_bytes node_tree in
+    let view = seen_entry string_bytes (node_tree []) in
     let xs = map view ps in
     let own = tuple2_spelling text string_spelling node_shape archived_as in
     let seen = ap (λ hs. said (map_spelling 7 8 pair_shape own hs) ps) (hashes_are ps)
@@ -249,32 +250,32 @@ index_written m ps old new result h =
 -- in an option
 abbrev pub depth_within : Option (Box Node Global) → ℕ
 depth_within None = 0
-depth_within (Some b) = depth (node_tree b.value)
+depth_within (Some b) = depth (node_tree [] b.value)
 
-pub element_below : (ns : List Node) (n : Node) → IsElement ns n → depth (node_tree n) ≤ most_within ns
+pub element_below : (ns : List Node) (n : Node) → IsElement ns n → depth (node_tree [] n) ≤ most_within ns
 element_below ns n h = by ns h.0 h.1 h.2
   where
-    by : (ms : List Node) (i : ℕ) → i < length ms → n ≡ get_or ms i n → depth (node_tree n) ≤ most_within ms
+    by : (ms : List Node) (i : ℕ) → i < length ms → n ≡ get_or ms i n → depth (node_tree [] n) ≤ most_within ms
     by [] i less e = absurd (omega (arith, less))
     by (m ∷ ms) zero less e =
-        let same : depth (node_tree n) ≡ depth (node_tree m) = ap (λ x. depth (node_tree x)) e in
-        let a = le-max_left (depth (node_tree m)) (most_within ms) in omega (arith, same, a)
+        let same : depth (node_tree [] n) ≡ depth (node_tree [] m) = ap (λ x. depth (node_tree [] x)) e in
+        let a = le-max_left (depth (node_tree [] m)) (most_within ms) in omega (arith, same, a)
     by (m ∷ ms) (suc i) less e =
         let rest = by ms i (omega (arith, less)) e in
-        let b = le-max_right (depth (node_tree m)) (most_within ms) in omega (arith, rest, b)
+        let b = le-max_right (depth (node_tree [] m)) (most_within ms) in omega (arith, rest, b)
 
 -- in a map
-pub pair_below : (ps : List (String Global × Node)) (n : Node) → IsElement (map (λ e. e.1) ps) n → depth (node_tree n) ≤ most_in_pairs ps
+pub pair_below : (ps : List (String Global × Node)) (n : Node) → IsElement (map (λ e. e.1) ps) n → depth (node_tree [] n) ≤ most_in_pairs ps
 pair_below ps n h = by ps h.0 h.1 h.2
   where
-    by : (ms : List (String Global × Node)) (i : ℕ) → i < length (map (λ e. e.1) ms) → n ≡ get_or (map (λ e. e.1) ms) i n → depth (node_tree n) ≤ most_in_pairs ms
+    by : (ms : List (String Global × Node)) (i : ℕ) → i < length (map (λ e. e.1) ms) → n ≡ get_or (map (λ e. e.1) ms) i n → depth (node_tree [] n) ≤ most_in_pairs ms
     by [] i less e = absurd (omega (arith, less))
     by (m ∷ ms) zero less e =
-        let same : depth (node_tree n) ≡ depth (node_tree m.1) = ap (λ x. depth (node_tree x)) e in
-        let a = le-max_left (depth (node_tree m.1)) (most_in_pairs ms) in omega (arith, same, a)
+        let same : depth (node_tree [] n) ≡ depth (node_tree [] m.1) = ap (λ x. depth (node_tree [] x)) e in
+        let a = le-max_left (depth (node_tree [] m.1)) (most_in_pairs ms) in omega (arith, same, a)
     by (m ∷ ms) (suc i) less e =
         let rest = by ms i (omega (arith, less)) e in
-        let b = le-max_right (depth (node_tree m.1)) (most_in_pairs ms) in omega (arith, rest, b)
+        let b = le-max_right (depth (node_tree [] m.1)) (most_in_pairs ms) in omega (arith, rest, b)
 
 pub only_element : {A : Type 0} (x y : A) → IsElement (x ∷ []) y → y ≡ x
 only_element x y h = by h.0 h.1 h.2
@@ -287,68 +288,74 @@ only_element x y h = by h.0 h.1 h.2
 
 module _ {W : Type 0} (m : WriterMembers W) (n : Node) (old new : W) where
   -- what is written of one level of a node's tree is written of the node
-  as_level : (t : Tree) (result : Result NodeResolver Error) → node_tree n ≡ t → Serializes (node_level node_spelling) m t old new result → Serializes archived_as m n old new result
+  as_level : (t : Tree) (result : Result NodeResolver Error) → node_tree [] n ≡ t → Serializes (node_level node_spelling) m t old new result → Serializes archived_as m n old new result
   as_level t result is h =
       subst (λ u. Serializes node_spelling m u old new result) (sym is) (one_level_is_written_law m t old new result h)
 
   pub text_wrote : (s : String Global) (r : StringResolver) → n ≡ node.Text s → Serializes str_spelling m (string_bytes s) old new (Ok r) → Serializes archived_as m n old new (Ok (resolver.Text r))
   text_wrote s r is h =
-      as_level (tree.leaf (tree.text (string_bytes s))) (Ok (resolver.Text r)) (ap node_tree is ∙ node_tree-text s)
+      as_level (tree.leaf (tree.text (string_bytes s))) (Ok (resolver.Text r)) (ap (node_tree []) is ∙ node_tree-text [] s)
       (λ st at. let o = h st at in (o.0, (ap (λ q. resolver.Text q) o.1.0, o.1.1, o.1.2)))
 
   pub text_refused : (s : String Global) (e : Error) → n ≡ node.Text s → Serializes str_spelling m (string_bytes s) old new (Err e) → Serializes archived_as m n old new (Err e)
-  text_refused s e is h = as_level (tree.leaf (tree.text (string_bytes s))) (Err e) (ap node_tree is ∙ node_tree-text s) h
+  text_refused s e is h = as_level (tree.leaf (tree.text (string_bytes s))) (Err e) (ap (node_tree []) is ∙ node_tree-text [] s) h
 
   pub shared_wrote : (s : RcStr Global) (t : List ℕ) (pos : ℕ) → n ≡ node.Shared s → t ≡ rc_str_bytes s
       → Serializes (shared_text_spelling text_key) m t old new (Ok pos) → Serializes archived_as m n old new (Ok (resolver.Shared (record { pos = pos })))
   shared_wrote s t pos is same h =
-      as_level (tree.shared t) (Ok (resolver.Shared (record { pos = pos }))) (ap node_tree is ∙ node_tree-shared s ∙ ap tree.shared (sym same))
+      as_level (tree.shared t) (Ok (resolver.Shared (record { pos = pos }))) (ap (node_tree []) is ∙ node_tree-shared [] s ∙ ap tree.shared (sym same))
       (λ st at. let o = h st at in (o.0, (ap (λ q. resolver.Shared (record { pos = q })) o.1.0, o.1.1, o.1.2)))
 
   pub shared_refused : (s : RcStr Global) (t : List ℕ) (e : Error) → n ≡ node.Shared s → t ≡ rc_str_bytes s
       → Serializes (shared_text_spelling text_key) m t old new (Err e) → Serializes archived_as m n old new (Err e)
-  shared_refused s t e is same h = as_level (tree.shared t) (Err e) (ap node_tree is ∙ node_tree-shared s ∙ ap tree.shared (sym same)) h
+  shared_refused s t e is same h = as_level (tree.shared t) (Err e) (ap (node_tree []) is ∙ node_tree-shared [] s ∙ ap tree.shared (sym same)) h
 
   pub maybe_wrote : (o : Option (Box Node Global)) (r : Option BoxResolver) → n ≡ node.Maybe o → Serializes (maybe_spelling node_spelling) m (tree_within o) old new (Ok r) → Serializes archived_as m n old new (Ok (resolver.Maybe r))
   maybe_wrote None r is h =
-      as_level tree.nothing (Ok (resolver.Maybe r)) (ap node_tree is ∙ node_tree-none)
+      as_level tree.nothing (Ok (resolver.Maybe r)) (ap (node_tree []) is ∙ node_tree-none [])
       (λ st at. let o = h st at in (o.0, (ap (λ q. resolver.Maybe q) o.1.0, o.1.1, o.1.2)))
   maybe_wrote (Some b) r is h =
-      as_level (tree.just (node_tree b.value)) (Ok (resolver.Maybe r)) (ap node_tree is ∙ node_tree-some b)
+      as_level (tree.just (node_tree [] b.value)) (Ok (resolver.Maybe r)) (ap (node_tree []) is ∙ node_tree-some [] b)
       (λ st at. let o = h st at in (o.0, (ap (λ q. resolver.Maybe q) o.1.0, o.1.1, o.1.2)))
 
   pub maybe_refused : (o : Option (Box Node Global)) (e : Error) → n ≡ node.Maybe o → Serializes (maybe_spelling node_spelling) m (tree_within o) old new (Err e) → Serializes archived_as m n old new (Err e)
-  maybe_refused None e is h = as_level tree.nothing (Err e) (ap node_tree is ∙ node_tree-none) h
-  maybe_refused (Some b) e is h = as_level (tree.just (node_tree b.value)) (Err e) (ap node_tree is ∙ node_tree-some b) h
+  maybe_refused None e is h = as_level tree.nothing (Err e) (ap (node_tree []) is ∙ node_tree-none []) h
+  maybe_refused (Some b) e is h = as_level (tree.just (node_tree [] b.value)) (Err e) (ap (node_tree []) is ∙ node_tree-some [] b) h
 
   pub list_wrote : (v : Vec Node Global) (r : VecResolver) → n ≡ node.List v → Serializes (list_spelling node_spelling) m (trees_within v.items) old new (Ok r) → Serializes archived_as m n old new (Ok (resolver.List r))
   list_wrote v r is h =
-      as_level (tree.list (node_trees v.items)) (Ok (resolver.List r)) (ap node_tree is ∙ node_tree-list v)
+      as_level (tree.list (node_trees [] v.items)) (Ok (resolver.List r)) (ap (node_tree []) is ∙ node_tree-list [] v)
       (λ st at. let o = h st at in (o.0, (ap (λ q. resolver.List q) o.1.0, o.1.1, o.1.2)))
 
   pub list_refused : (v : Vec Node Global) (e : Error) → n ≡ node.List v → Serializes (list_spelling node_spelling) m (trees_within v.items) old new (Err e) → Serializes archived_as m n old new (Err e)
-  list_refused v e is h = as_level (tree.list (node_trees v.items)) (Err e) (ap node_tree is ∙ node_tree-list v) h
+  list_refused v e is h = as_level (tree.list (node_trees [] v.items)) (Err e) (ap (node_tree []) is ∙ node_tree-list [] v) h
 
   pub ordered_wrote : (b : BTreeMap (String Global) Node) (r : BTreeMapResolver) → n ≡ node.Ordered b → Serializes (ordered_spelling node_spelling) m (pairs_within b.entries) old new (Ok r) → Serializes archived_as m n old new (Ok (resolver.Ordered r))
   ordered_wrote b r is h =
-      as_level (tree.map ordered (node_pairs b.entries)) (Ok (resolver.Ordered r)) (ap node_tree is ∙ node_tree-ordered b)
+      as_level (tree.map ordered (node_pairs [] b.entries)) (Ok (resolver.Ordered r)) (ap (node_tree []) is ∙ node_tree-ordered [] b)
       (λ st at. let o = h st at in (o.0, (ap (λ q. resolver.Ordered q) o.1.0, o.1.1, o.1.2)))
 
   pub ordered_refused : (b : BTreeMap (String Global) Node) (e : Error) → n ≡ node.Ordered b → Serializes (ordered_spelling node_spelling) m (pairs_within b.entries) old new (Err e) → Serializes archived_as m n old new (Err e)
-  ordered_refused b e is h = as_level (tree.map ordered (node_pairs b.entries)) (Err e) (ap node_tree is ∙ node_tree-ordered b) h
+  ordered_refused b e is h = as_level (tree.map ordered (node_pairs [] b.entries)) (Err e) (ap (node_tree []) is ∙ node_tree-ordered [] b) h
 
   pub hashed_wrote : (b : BTreeMap (String Global) Node) (r : HashTableResolver) → n ≡ node.Hashed b → Serializes (hashed_spelling node_spelling) m (pairs_within b.entries) old new (Ok r) → Serializes archived_as m n old new (Ok (resolver.Hashed r))
   hashed_wrote b r is h =
-      as_level (tree.map hashed (node_pairs b.entries)) (Ok (resolver.Hashed r)) (ap node_tree is ∙ node_tree-hashed b)
+      as_level (tree.map hashed (node_pairs [] b.entries)) (Ok (resolver.Hashed r)) (ap (node_tree []) is ∙ node_tree-hashed [] b)
       (λ st at. let o = h st at in (o.0, (ap (λ q. resolver.Hashed q) o.1.0, o.1.1, o.1.2)))
 
   pub hashed_refused : (b : BTreeMap (String Global) Node) (e : Error) → n ≡ node.Hashed b → Serializes (hashed_spelling node_spelling) m (pairs_within b.entries) old new (Err e) → Serializes archived_as m n old new (Err e)
-  hashed_refused b e is h = as_level (tree.map hashed (node_pairs b.entries)) (Err e) (ap node_tree is ∙ node_tree-hashed b) h
+  hashed_refused b e is h = as_level (tree.map hashed (node_pairs [] b.entries)) (Err e) (ap (node_tree []) is ∙ node_tree-hashed [] b) h
 
   pub kept_wrote : (v : Vec (String Global × Node) Global) (r : IndexMapResolver) → n ≡ node.Kept v → Serializes (kept_spelling node_spelling) m (pairs_within v.items) old new (Ok r) → Serializes archived_as m n old new (Ok (resolver.Kept r))
   kept_wrote v r is h =
-      as_level (tree.map kept (node_pairs v.items)) (Ok (resolver.Kept r)) (ap node_tree is ∙ node_tree-kept v)
+      as_level (tree.map kept (node_pairs [] v.items)) (Ok (resolver.Kept r)) (ap (node_tree []) is ∙ node_tree-kept [] v)
       (λ st at. let o = h st at in (o.0, (ap (λ q. resolver.Kept q) o.1.0, o.1.1, o.1.2)))
 
   pub kept_refused : (v : Vec (String Global × Node) Global) (e : Error) → n ≡ node.Kept v → Serializes (kept_spelling node_spelling) m (pairs_within v.items) old new (Err e) → Serializes archived_as m n old new (Err e)
-  kept_refused v e is h = as_level (tree.map kept (node_pairs v.items)) (Err e) (ap node_tree is ∙ node_tree-kept v) h
+  kept_refused v e is h = as_level (tree.map kept (node_pairs [] v.items)) (Err e) (ap (node_tree []) is ∙ node_tree-kept [] v) h
+
+-- of a whole nothing is written, and it is refused
+pub whole_refused : {W : Type 0} (m : WriterMembers W) (n : Node) (old : W) (entry : ℕ) → n ≡ node.Whole entry → Serializes archived_as m n old old (Err InvalidTag)
+whole_refused m n old entry is =
+    as_level m n old old (tree.whole no_tree) (Err InvalidTag) (ap (node_tree []) is ∙ node_tree-whole [] entry)
+    (λ st at. inr (record { is_cut = λ _. cut_none (m.contents old) []; is_quiet = refl; reason = inr refl }))

@@ -1,8 +1,7 @@
 //! A node beside the table of its document, and the table.
 use cabinet_text_nodes::Node;
 
-/// A node beside the table of the whole shared subtrees of its document. The table has no entry as long as documents
-/// have no such subtrees.
+/// A node beside the table of the wholes of its document. The table has no entry, since archives have no wholes.
 #[derive(Clone, Copy)]
 pub struct NodeIn<'a> {
     pub wholes: &'a [Node],

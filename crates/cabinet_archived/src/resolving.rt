@@ -246,7 +246,7 @@ fn resolve_kept(
     )
 }
 
-/// Writes a node's own bytes.
+/// Writes a node's own bytes. Returns `InvalidTag` for a whole, which has no tag.
 pub(crate) fn resolve_node(
     node: &Node,
     resolver: NodeResolver,
@@ -312,5 +312,6 @@ pub(crate) fn resolve_node(
             let place = Place::within(out, start + tag::OFFSET, pos + tag::OFFSET);
             return resolve_kept(pairs, index_kept(resolver), place);
         }
+        Node::Whole(_) => return Err(Error::InvalidTag),
     }
 }

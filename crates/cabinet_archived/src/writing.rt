@@ -1,5 +1,5 @@
 //! Archives nodes, each by its kind and beside the table of its document.
-ghost use Rattle.std.specs.Prelude.{◌≡◌, ◌-◌, ◌^◌, ◌<◌, ◌≤◌};
+ghost use Rattle.std.specs.Prelude.{◌≡◌, ◌-◌, ◌^◌, ◌<◌, ◌≤◌, []};
 ghost use Rattle.archive_forms_laws.specs.Serializing.{CanResolve, HasState, Resolves, Serializes, SerializesBy};
 ghost use Rattle.archive_forms_laws.proofs.Views.{seen_spells};
 ghost use Rattle.cabinet_text_grammar.specs.Tree.{depth};
@@ -49,7 +49,7 @@ impl<'a> Archive for NodeIn<'a> {
         resolve_node(self.node, resolver, Place::within(out, start, pos))
     }
 
-    ghost spells = { λ fit. seen_spells fit node_shape KnowsNode (λ x. node_tree x.node.now) node_spelling (node_spells_law fit) };
+    ghost spells = { λ fit. seen_spells fit node_shape KnowsNode (λ x. node_tree [] x.node.now) node_spelling (node_spells_law fit) };
 }
 
 impl<'a> ArchiveWith<Node> for NodesIn<'a> {
@@ -79,7 +79,7 @@ impl<'a> ArchiveWith<Node> for NodesIn<'a> {
         resolve_node(value, resolver, Place::within(out, start, pos))
     }
 
-    ghost spells = { λ _ fit. seen_spells fit node_shape KnowsNode node_tree node_spelling (node_spells_law fit) };
+    ghost spells = { λ _ fit. seen_spells fit node_shape KnowsNode (node_tree []) node_spelling (node_spells_law fit) };
 }
 
 /// Writes the data of the node in an option.
@@ -139,7 +139,7 @@ fn serialize_list<S: TextSharing>(
         nodes.as_slice(),
         serializer,
         |item: &Node, s: &mut S| -> Result<(NodeResolver, PhantomData<ArchivedNode>), Error>
-            requires below { depth (node_tree item.now) ≤ most_within nodes.now.items }
+            requires below { depth (node_tree [] item.now) ≤ most_within nodes.now.items }
             requires room { S.failures s.old < 2 ^ 64 - 1 }
             requires state { HasState S.pos S.known s.old }
             ensures { SerializesBy (λ q. q.0) archived_as S.Writer item.now s.old s.new result }
@@ -179,7 +179,7 @@ fn serialize_ordered<S: TextSharing>(
             ensures { SerializesBy (λ q. q.0) string_spelling S.Writer key.now s.old s.new result }
         { serialize_element(key, s) },
         |item: &Node, s: &mut S| -> Result<(NodeResolver, PhantomData<ArchivedNode>), Error>
-            requires below { depth (node_tree item.now) ≤ most_in_pairs map.now.entries }
+            requires below { depth (node_tree [] item.now) ≤ most_in_pairs map.now.entries }
             requires room { S.failures s.old < 2 ^ 64 - 1 }
             requires state { HasState S.pos S.known s.old }
             ensures { SerializesBy (λ q. q.0) archived_as S.Writer item.now s.old s.new result }
@@ -215,7 +215,7 @@ fn serialize_hashed<S: TextSharing>(
             ensures { SerializesBy (λ q. q.0) string_spelling S.Writer key.now s.old s.new result }
         { serialize_element(key, s) },
         |item: &Node, s: &mut S| -> Result<(NodeResolver, PhantomData<ArchivedNode>), Error>
-            requires below { depth (node_tree item.now) ≤ most_in_pairs map.now.entries }
+            requires below { depth (node_tree [] item.now) ≤ most_in_pairs map.now.entries }
             requires room { S.failures s.old < 2 ^ 64 - 1 }
             requires state { HasState S.pos S.known s.old }
             ensures { SerializesBy (λ q. q.0) archived_as S.Writer item.now s.old s.new result }
@@ -251,7 +251,7 @@ fn serialize_kept<S: TextSharing>(
             ensures { SerializesBy (λ q. q.0) string_spelling S.Writer key.now s.old s.new result }
         { serialize_element(key, s) },
         |item: &Node, s: &mut S| -> Result<(NodeResolver, PhantomData<ArchivedNode>), Error>
-            requires below { depth (node_tree item.now) ≤ most_in_pairs pairs.now.items }
+            requires below { depth (node_tree [] item.now) ≤ most_in_pairs pairs.now.items }
             requires room { S.failures s.old < 2 ^ 64 - 1 }
             requires state { HasState S.pos S.known s.old }
             ensures { SerializesBy (λ q. q.0) archived_as S.Writer item.now s.old s.new result }
@@ -265,7 +265,8 @@ fn serialize_kept<S: TextSharing>(
     )
 }
 
-/// Writes the data of a node. The depth of its recursion is at most the depth at which nodes lie in one another.
+/// Writes the data of a node. Returns `InvalidTag` for a whole, which has no archived form. The depth of its recursion is
+/// at most the depth at which nodes lie in one another.
 #[cycle(serialize)]
 fn serialize_node<S: TextSharing>(
     node: NodeIn<'_>,
@@ -306,6 +307,7 @@ fn serialize_node<S: TextSharing>(
             Ok(kept) => Ok(NodeResolver::Kept(kept)),
             Err(e) => Err(e),
         },
+        Node::Whole(_) => Err(Error::InvalidTag),
     }
 }
 

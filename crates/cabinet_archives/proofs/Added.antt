@@ -153,18 +153,18 @@ rising_arranged before (more_pairs k t ps) h = ap (inserted k t) (rising_arrange
 -- ---- lists and maps of std
 
 -- an entry that is pushed is a pair that is appended
-pub entry_appended : (entries : List (String Global × Node)) (key : String Global) (node : Node) → node_pairs (entries ++ ((key, node) ∷ [])) ≡ appended (string_bytes key) (node_tree node) (node_pairs entries)
+pub entry_appended : (entries : List (String Global × Node)) (key : String Global) (node : Node) → node_pairs [] (entries ++ ((key, node) ∷ [])) ≡ appended (string_bytes key) (node_tree [] node) (node_pairs [] entries)
 entry_appended [] key node = refl
-entry_appended (e ∷ es) key node = ap (more_pairs (string_bytes e.0) (node_tree e.1)) (entry_appended es key node)
+entry_appended (e ∷ es) key node = ap (more_pairs (string_bytes e.0) (node_tree [] e.1)) (entry_appended es key node)
 
 -- an entry that is inserted is a pair that is added
-pub entry_added : (entries : List (String Global × Node)) (key : String Global) (node : Node) → node_pairs (insert_entry string_cmp entries key node) ≡ added (string_bytes key) (node_tree node) (node_pairs entries)
+pub entry_added : (entries : List (String Global × Node)) (key : String Global) (node : Node) → node_pairs [] (insert_entry string_cmp entries key node) ≡ added (string_bytes key) (node_tree [] node) (node_pairs [] entries)
 entry_added [] key node = refl
 entry_added (e ∷ es) key node = by (string_cmp key e.0) (entry_added es key node)
   where
-    by : (o : Ordering) → node_pairs (insert_entry string_cmp es key node) ≡ added (string_bytes key) (node_tree node) (node_pairs es)
-        → node_pairs (match_ordering o ((key, node) ∷ e ∷ es) ((e.0, node) ∷ es) (e ∷ insert_entry string_cmp es key node))
-        ≡ match_ordering o (more_pairs (string_bytes key) (node_tree node) (node_pairs (e ∷ es))) (more_pairs (string_bytes e.0) (node_tree node) (node_pairs es)) (more_pairs (string_bytes e.0) (node_tree e.1) (added (string_bytes key) (node_tree node) (node_pairs es)))
+    by : (o : Ordering) → node_pairs [] (insert_entry string_cmp es key node) ≡ added (string_bytes key) (node_tree [] node) (node_pairs [] es)
+        → node_pairs [] (match_ordering o ((key, node) ∷ e ∷ es) ((e.0, node) ∷ es) (e ∷ insert_entry string_cmp es key node))
+        ≡ match_ordering o (more_pairs (string_bytes key) (node_tree [] node) (node_pairs [] (e ∷ es))) (more_pairs (string_bytes e.0) (node_tree [] node) (node_pairs [] es)) (more_pairs (string_bytes e.0) (node_tree [] e.1) (added (string_bytes key) (node_tree [] node) (node_pairs [] es)))
     by Less on = refl
     by Equal on = refl
-    by Greater on = ap (more_pairs (string_bytes e.0) (node_tree e.1)) on
+    by Greater on = ap (more_pairs (string_bytes e.0) (node_tree [] e.1)) on

@@ -12,7 +12,7 @@ use Rattle.archive_shape.specs.ShapeLayout.Content.{members}
 use Rattle.archive_shape.specs.Key.{HeldAt}
 use Rattle.archive_shape.proofs.Words.{word_bound}
 use Rattle.cabinet_text_nodes.specs.TextGrammar.Path.{Step, key, place, inside, node_at, node_in, node_by}
-use Rattle.cabinet_text_nodes.specs.TextGrammar.Tree.{Tree, leaf, shared, nothing, just, list, map, Trees, no_trees, more_trees, Pairs, no_pairs, more_pairs, depth, most_depth, pairs_depth}
+use Rattle.cabinet_text_nodes.specs.TextGrammar.Tree.{Tree, leaf, shared, nothing, just, list, map, whole, Trees, no_trees, more_trees, Pairs, no_pairs, more_pairs, depth, most_depth, pairs_depth}
 use Rattle.cabinet_archived.specs.Documents.Accepted.{Accepted}
 use Rattle.cabinet_archived.specs.Documents.Node.{node_shape, KnowsNode}
 use Rattle.cabinet_archived.specs.Documents.Denotes.{Denotes}
@@ -44,6 +44,9 @@ mutual
   at_low (map kind ps) (key k ∷ path) u e = let h = by_low ps k path u e in omega (arith, h)
   at_low (map kind ps) (place i ∷ path) u e = absurd (cc)
   at_low (map kind ps) (inside ∷ path) u e = absurd (cc)
+  at_low (whole t) (key k ∷ path) u e = absurd (cc)
+  at_low (whole t) (place i ∷ path) u e = absurd (cc)
+  at_low (whole t) (inside ∷ path) u e = let h = at_low t path u e in omega (arith, h)
 
   in_low : (ts : Trees) (i : ℕ) (path : List Step) (u : Tree) → node_in ts i path ≡ Some u → length path ≤ most_depth ts
   in_low no_trees i path u e = absurd (cc)

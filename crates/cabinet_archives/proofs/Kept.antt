@@ -2,8 +2,8 @@
 use Rattle.std.proofs.Common.{◌≡◌, ◌≢◌, ℕ, Bool, true, false, if◌then◌else◌, List, length, Option, Some, None, refl, sym, subst}
 use Rattle.archive_shape.specs.ShapeLayout.Value.{Value}
 use Rattle.archive_shape.proofs.ShapeLayout.Unique.{one_value}
-use Rattle.cabinet_text_nodes.specs.TextGrammar.Tree.{Tree, Leaf, leaf, shared, nothing, just, list, map, IsLeaf}
-use Rattle.cabinet_text_nodes.specs.TextGrammar.Path.{Step, node_at}
+use Rattle.cabinet_text_nodes.specs.TextGrammar.Tree.{Tree, Leaf, leaf, shared, nothing, just, list, map, whole, IsLeaf}
+use Rattle.cabinet_text_nodes.specs.TextGrammar.Path.{Step, node_at, enters}
 use Rattle.cabinet_text_nodes.specs.TextGrammar.Line.{set}
 use Rattle.cabinet_text_nodes.specs.TextGrammar.Answering.{Answer, head, keys_are, wrong, missing, done, refused, bad, answer, change, fits, if_there, outcome_there}
 use Rattle.cabinet_text_nodes.proofs.TextGrammar.Changes.{only_done_changes}
@@ -27,18 +27,24 @@ record DoneThere (found : Option Tree) (new : Leaf) : Type 0 where
   pub there : found ≡ Some (leaf old)
   pub fitting : fits old new ≡ true
 
-done_there : (found : Option Tree) (new : Leaf) → if_there found (outcome_there new) ≡ done → DoneThere found new
-done_there None new e = absurd (cc)
-done_there (Some (leaf old)) new e = record { old = old; there = refl; fitting = done_if (fits old new) e }
-done_there (Some (shared s)) new e = absurd (cc)
-done_there (Some nothing) new e = absurd (cc)
-done_there (Some (just t)) new e = absurd (cc)
-done_there (Some (list ts)) new e = absurd (cc)
-done_there (Some (map kind ps)) new e = absurd (cc)
+done_at_leaf : (u : Tree) (new : Leaf) → outcome_there new u ≡ done → DoneThere (Some u) new
+done_at_leaf (leaf old) new e = record { old = old; there = refl; fitting = done_if (fits old new) e }
+done_at_leaf (shared s) new e = absurd (cc)
+done_at_leaf nothing new e = absurd (cc)
+done_at_leaf (just t) new e = absurd (cc)
+done_at_leaf (list ts) new e = absurd (cc)
+done_at_leaf (map kind ps) new e = absurd (cc)
+done_at_leaf (whole t) new e = absurd (cc)
+
+-- not in a whole
+done_there : (found : Option Tree) (b : Bool) (new : Leaf) → if_there found (λ u. if b then refused else outcome_there new u) ≡ done → DoneThere found new
+done_there None b new e = absurd (cc)
+done_there (Some u) true new e = absurd (cc)
+done_there (Some u) false new e = done_at_leaf u new e
 
 pub done_at : (t : Tree) (path : List Step) (new : Leaf) → answer t (set path new) ≡ done → IsDone t path new
 done_at t path new e =
-    let d = done_there (node_at t path) new e in
+    let d = done_there (node_at t path) (enters t path) new e in
     record { old = d.old; there = d.there; fitting = d.fitting }
 
 -- ---- what is true of a document before and after

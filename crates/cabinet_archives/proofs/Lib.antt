@@ -27,6 +27,7 @@ mod LoadedRoot
 mod LoadedTexts
 mod MapKeys
 mod NoSteps
+mod NoWholes
 mod NodeKinds
 mod Numbered
 mod Outcomes

@@ -55,8 +55,8 @@ module _ (bytes : List ℕ) where
 
   -- what is loaded of a payload is loaded of its node
   pub passed_on : {pos tag to : ℕ} {s : Shape} {knows : Names → Type 0} (x : Bor (List ℕ)) (r : Result Node AllocError) → x.now ≡ bytes → IsTagged bytes pos tag s knows to
-      → IfOk r (λ n. OfTree (tagged_value tag) s knows x.now to (λ t. node_tree n ≡ t)) → IfOk r (λ n. OfDocument bytes pos (λ t. node_tree n ≡ t))
-  passed_on {tag = tag} {to = to} {s = s} {knows = knows} x (Ok n) e tagged of = node_of_payload tagged (λ t. node_tree n ≡ t) (subst (λ b. OfTree (tagged_value tag) s knows b to (λ t. node_tree n ≡ t)) e of)
+      → IfOk r (λ n. OfTree (tagged_value tag) s knows x.now to (λ t. node_tree [] n ≡ t)) → IfOk r (λ n. OfDocument bytes pos (λ t. node_tree [] n ≡ t))
+  passed_on {tag = tag} {to = to} {s = s} {knows = knows} x (Ok n) e tagged of = node_of_payload tagged (λ t. node_tree [] n ≡ t) (subst (λ b. OfTree (tagged_value tag) s knows b to (λ t. node_tree [] n ≡ t)) e of)
   passed_on x (Err refused) e tagged of = tt
 
   -- ---- options
@@ -130,16 +130,16 @@ module _ (bytes : List ℕ) where
   -- the trees of the elements from a position on are those of nodes
   abbrev pub AreTreesAt : ℕ → List Node → Type 0
   AreTreesAt pos [] = ⊤
-  AreTreesAt pos (n ∷ ns) = OfDocument bytes pos (λ t. node_tree n ≡ t) × AreTreesAt (pos + size_of node_shape) ns
+  AreTreesAt pos (n ∷ ns) = OfDocument bytes pos (λ t. node_tree [] n ≡ t) × AreTreesAt (pos + size_of node_shape) ns
 
-  pub one_more : (pos : ℕ) (ns : List Node) (n : Node) → AreTreesAt pos ns → OfDocument bytes (pos + length ns * size_of node_shape) (λ t. node_tree n ≡ t) → AreTreesAt pos (ns ++ n ∷ [])
-  one_more pos [] n all last = (subst (λ p. OfDocument bytes p (λ t. node_tree n ≡ t)) (omega arith) last, tt)
+  pub one_more : (pos : ℕ) (ns : List Node) (n : Node) → AreTreesAt pos ns → OfDocument bytes (pos + length ns * size_of node_shape) (λ t. node_tree [] n ≡ t) → AreTreesAt pos (ns ++ n ∷ [])
+  one_more pos [] n all last = (subst (λ p. OfDocument bytes p (λ t. node_tree [] n ≡ t)) (omega arith) last, tt)
   one_more pos (m ∷ ns) n all last =
-      (all.0, one_more (pos + size_of node_shape) ns n all.1 (subst (λ p. OfDocument bytes p (λ t. node_tree n ≡ t)) (omega arith) last))
+      (all.0, one_more (pos + size_of node_shape) ns n all.1 (subst (λ p. OfDocument bytes p (λ t. node_tree [] n ≡ t)) (omega arith) last))
 
   trees_are : (pos : ℕ) (ns : List Node) {vs : Values} {ts : Trees} → DenoteAll vs ts → count_values vs ≡ length ns
       → ((i : ℕ) → i < length ns → (x : Value) × (value_in i vs ≡ Some x) × HeldAt node_shape KnowsNode bytes (pos + i * size_of node_shape) x)
-      → AreTreesAt pos ns → node_trees ns ≡ ts
+      → AreTreesAt pos ns → node_trees [] ns ≡ ts
   trees_are pos [] (denote_none e f) count each all = sym f
   trees_are pos [] (denote_more e f d ds) count each all = let is = ap count_values e in absurd (omega (arith, is, count))
   trees_are pos (n ∷ ns) (denote_none e f) count each all = let is = ap count_values e in absurd (omega (arith, is, count))
@@ -157,7 +157,7 @@ module _ (bytes : List ℕ) where
       ap₂ more_trees (all.0 v t (subst (HeldAt node_shape KnowsNode bytes pos) (sym same) (subst (λ p. HeldAt node_shape KnowsNode bytes p x.0) here x.2)) d) others ∙ sym f
 
   pub list_tree : {pos to len : ℕ} (vec : IsVecAt node_shape KnowsNode bytes pos to len) (ns : List Node) → length ns ≡ len → AreTreesAt to ns
-      → OfTree (tagged_value 5) (vector node_shape) KnowsNode bytes pos (λ t. list (node_trees ns) ≡ t)
+      → OfTree (tagged_value 5) (vector node_shape) KnowsNode bytes pos (λ t. list (node_trees [] ns) ≡ t)
   list_tree {to = to} vec ns count all = λ v t h d.
       let a = vec.value v h in
       let l = of_list (ap (tagged_value 5) a.is) d in

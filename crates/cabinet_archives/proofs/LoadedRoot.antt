@@ -1,11 +1,15 @@
 -- The tree of the root of accepted bytes.
-use Rattle.std.proofs.Common.{◌≡◌, ℕ, Bor, List, [], ◌∷◌, true, false, refl, ap, subst, sym, arith}
+use Rattle.std.proofs.Common.{◌≡◌, ℕ, ◌<◌, ◌≤◌, ◌^◌, Bor, List, [], ◌∷◌, length, true, false, refl, ap, subst, sym, arith}
 use Rattle.std.proofs.Math.Bool.{Bool-set}
 use Rattle.std.proofs.Math.Logic.{∥∥₁_elim, ∥∥₁_map}
 use Rattle.archive_shape.specs.ShapeLayout.Value.{Value}
 use Rattle.archive_shape.proofs.ShapeLayout.Found.{root_is_found}
 use Rattle.archive_forms_values.specs.ShapeCanonical.Canonical.{AreBytes}
-use Rattle.cabinet_text_nodes.specs.TextGrammar.Tree.{Tree, IsDocument}
+use Rattle.cabinet_text_nodes.specs.TextGrammar.Tree.{Tree, IsLegal, depth}
+use Rattle.cabinet_text_nodes.specs.TextGrammar.Wholes.{wholes_of, IsDocument}
+use Rattle.cabinet_text_nodes.specs.View.{node_tree}
+use Rattle.cabinet_text_nodes.specs.declared.node.Node.{Node}
+use Rattle.cabinet_text_nodes.proofs.Entries.{no_wholes}
 use Rattle.cabinet_archived.specs.Documents.Accepted.{Accepted}
 use Rattle.cabinet_archived.specs.Documents.Audit.{Unsound, faults, first_of}
 use Rattle.cabinet_archived.specs.Documents.Laws.{AuditDecided, IsAccepted}
@@ -38,12 +42,17 @@ module _ (bytes : List ℕ) where
       let document = a.accepted.document in
       record { value = a.accepted.value; held = root_there bytes a.accepted; tree = a.tree; denotes = a.accepted.denotes; legal = document.0; low = omega (arith, document.1) }
 
-  -- what is loaded of the root is a document, and the one that the bytes are accepted as
-  module _ (n : Tree) (is : OfDocument bytes (root_of bytes) (λ t. n ≡ t)) where
-    pub loaded_document : HasTree (λ v. v) node_shape KnowsNode bytes (root_of bytes) 0 → IsDocument n
-    loaded_document has = let low = has.low in subst IsDocument (sym (is has.value has.tree has.held has.denotes)) (has.legal, omega (arith, low))
+  -- what is loaded of the root is a document without wholes, and the one that the bytes are accepted as
+  module _ (n : Node) (is : OfDocument bytes (root_of bytes) (λ t. node_tree [] n ≡ t)) where
+    pub loaded_document : HasTree (λ v. v) node_shape KnowsNode bytes (root_of bytes) 0 → IsDocument (node_tree [] n) × (wholes_of (node_tree [] n) ≡ [])
+    loaded_document has =
+        let same = is has.value has.tree has.held has.denotes in
+        let legal = subst IsLegal (sym same) has.legal in
+        let none = no_wholes n legal in
+        let low = has.low in
+        ((legal, subst (λ t. depth t ≤ 64) (sym same) (omega (arith, low)), subst (λ table. length table < 2 ^ 64) (sym none) (omega arith)), none)
 
-    pub loaded_accepted : (t : Tree) → Accepted bytes t → n ≡ t
+    pub loaded_accepted : (t : Tree) → Accepted bytes t → node_tree [] n ≡ t
     loaded_accepted t a = is a.value t (root_there bytes a) a.denotes
 
 -- ---- the same bytes, the same position

@@ -1,5 +1,5 @@
 -- The answer, and the bytes after it, where a leaf is put in the node that a path reaches, or none is reached.
-use Rattle.std.proofs.Common.{◌≡◌, ℕ, Bor, List, length, refl, sym, ap, subst, ◌∙◌}
+use Rattle.std.proofs.Common.{◌≡◌, ℕ, Bor, if◌then◌else◌, List, length, refl, sym, ap, subst, ◌∙◌}
 use Rattle.std.proofs.Math.Logic.{∥∥₁_map}
 use Rattle.archive_shape.specs.ShapeLayout.Holds.{root_position}
 use Rattle.archive_shape.specs.ShapeLayout.Content.Part.{at}
@@ -10,7 +10,7 @@ use Rattle.archive_core_validation.proofs.Rooted.{root_held}
 use Rattle.cabinet_text_nodes.specs.TextGrammar.Tree.{Tree, Leaf, IsLeaf}
 use Rattle.cabinet_text_nodes.specs.TextGrammar.Path.{Step}
 use Rattle.cabinet_text_nodes.specs.TextGrammar.Line.{set}
-use Rattle.cabinet_text_nodes.specs.TextGrammar.Answering.{Answer, head, keys_are, wrong, missing, done, refused, bad, answer, change, if_there, outcome_there}
+use Rattle.cabinet_text_nodes.specs.TextGrammar.Answering.{Answer, head, keys_are, wrong, missing, done, refused, bad, answer, change, if_there, outcome_there, outcome_at}
 use Rattle.cabinet_archived.specs.Documents.Node.{node_shape, node_names, KnowsNode}
 use Rattle.cabinet_archived.specs.Documents.Accepted.{Accepted}
 use Rattle.cabinet_archived.specs.Documents.Image.{Image}
@@ -20,6 +20,7 @@ use Rattle.cabinet_archives.specs.Sound.{HasSoundWalk, IsSoundPart}
 use Rattle.cabinet_archives.specs.Found.{OfDocument, Reaches, ReachesNone}
 use Rattle.cabinet_archives.specs.Setting.{EditLeaves}
 use Rattle.cabinet_archives.specs.Putting.{PutLeaves}
+use Rattle.cabinet_archives.proofs.NoWholes.{denoted_enters_none}
 use Rattle.cabinet_archives.proofs.Kept.{done_at, set_keeps_accepted, set_keeps_image}
 use Rattle.cabinet_archives.proofs.OwnPlaces.{own_there}
 
@@ -57,13 +58,14 @@ module _ (bytes : List ℕ) where
     -- ---- no node is reached, or one
 
     pub none_set : ReachesNone bytes (root_of bytes) path → Sets missing bytes
-    none_set none t a = record { answered = sym (ap (λ o. if_there o (outcome_there new)) (none a.value t (root_there a) a.denotes)); left = refl }
+    none_set none t a = record { answered = sym (ap (λ o. if_there o (outcome_at t path new)) (none a.value t (root_there a) a.denotes)); left = refl }
 
     module _ (to : ℕ) (reached : Reaches bytes (root_of bytes) path to) (o : Answer) (after : List ℕ) (told : OfDocument bytes to (λ u. o ≡ outcome_there new u)) where
       answered_there : (t : Tree) → Accepted bytes t → o ≡ answer t (set path new)
       answered_there t a =
           let s = reached.stands a.value t (root_there a) a.denotes in
-          told s.node.value s.tree s.node.held s.node.denotes ∙ sym (ap (λ x. if_there x (outcome_there new)) s.there)
+          let outside = ap (λ b. if b then refused else outcome_there new s.tree) (denoted_enters_none path a.denotes) in
+          told s.node.value s.tree s.node.held s.node.denotes ∙ sym outside ∙ sym (ap (λ x. if_there x (outcome_at t path new)) s.there)
 
       left_there : (r : Answer) → o ≡ r → PutLeaves bytes to new r after → (t : Tree) (a : Accepted bytes t) → EditLeaves bytes a.value path new r after
       left_there (head i) e p t a = p

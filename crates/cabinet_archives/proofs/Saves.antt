@@ -7,11 +7,13 @@ use Rattle.archive_shape_writing.specs.Writing.{WriterMembers, Cut, IsCounted}
 use Rattle.archive_forms_values.specs.FormsLaws.State.{initial}
 use Rattle.archive_forms_values.specs.FormsLaws.Pointers.{box_spelling}
 use Rattle.archive_forms_values.specs.FormsLaws.Serializing.{IsAt, Serializes}
-use Rattle.cabinet_text_nodes.specs.TextGrammar.Tree.{Tree, IsDocument}
+use Rattle.cabinet_text_nodes.specs.TextGrammar.Tree.{Tree}
+use Rattle.cabinet_text_nodes.specs.TextGrammar.Wholes.{IsDocument}
 use Rattle.archive_shape.specs.ShapeLayout.Holds.{root_position}
 use Rattle.archive_core_validation.proofs.Rooted.{root_held}
 use Rattle.cabinet_archived.specs.Documents.Node.{node_shape, node_names, KnowsNode}
 use Rattle.cabinet_archived.specs.Documents.Image.{Image}
+use Rattle.cabinet_archived.specs.Documents.NoWholes.{HasNoWholes}
 use Rattle.cabinet_archived.specs.Documents.Spelling.{node_value}
 use Rattle.cabinet_archived.specs.Documents.SpellingLaws.{archive_of, ArchiveFits, ArchiveRefused}
 use Rattle.cabinet_archived.proofs.Documents.Imaged.{written_is_image_law, one_image_law}
@@ -29,23 +31,23 @@ module _ {S : Type 0} (m : WriterMembers S) (n : Node) (old new : S) (at : IsAt 
   pub archive_made :
       (pos : ℕ) (bytes : List ℕ) → IsTrue m.OBSERVABLE → m.contents old ≡ [] → m.contents new ≡ bytes
       → Serializes (box_spelling node_shape archived_as) m n old new (Ok pos)
-      → ArchiveFits (node_tree n) × (bytes ≡ archive_of (node_tree n))
+      → ArchiveFits (node_tree [] n) × (bytes ≡ archive_of (node_tree [] n))
   archive_made pos bytes tells none is h =
       let o = h initial at in
-      (o.1.1, sym is ∙ o.0.gains tells ∙ ap (λ l. l ++ archive_of (node_tree n)) none)
+      (o.1.1, sym is ∙ o.0.gains tells ∙ ap (λ l. l ++ archive_of (node_tree [] n)) none)
 
   -- a writer that counts no failures failed only because an allocation failed
   pub archive_refused :
       (e : Error) → m.COUNTS ≡ false
       → Serializes (box_spelling node_shape archived_as) m n old new (Err e)
-      → (e ≡ OutOfMemory) ⊎ ArchiveRefused (node_tree n) e
+      → (e ≡ OutOfMemory) ⊎ ArchiveRefused (node_tree [] n) e
   archive_refused e uncounted h =
       ⊎_elim (λ f. inl (subst (λ b. IsCounted b (m.failures old) (m.failures new) e) uncounted f.is_counted).1) (λ q. q.reason) (h initial at)
 
   pub archive_past :
       (e : Error) → m.COUNTS ≡ false → (e ≡ OutOfMemory → ⊥)
       → Serializes (box_spelling node_shape archived_as) m n old new (Err e)
-      → ArchiveRefused (node_tree n) e
+      → ArchiveRefused (node_tree [] n) e
   archive_past e uncounted other h = ⊎_elim (λ q. absurd (other q)) (λ q. q) (archive_refused e uncounted h)
 
 -- ---- a document
@@ -73,16 +75,17 @@ nothing_saved m t old image is_image tells =
 
 -- why there is no image in memory is why the document was not saved
 pub unsaved : {W : Type 0} (m : WriterMembers W) (t : Tree) (old : W) (r : SaveRefusal) → HasNoImageFor t r → IsUnsavedFor m t old old r
-unsaved m t old (refusal.Limit e) h = (h, refl)
+unsaved m t old (refusal.Limit e) h = (h.0, h.1, refl)
 unsaved m t old (refusal.Writer e) h = absurd h
-unsaved m t old refusal.OutOfMemory h = (inl refl, refl, nothing_saved m t old)
+unsaved m t old refusal.OutOfMemory h = (h, inl refl, refl, nothing_saved m t old)
+unsaved m t old refusal.Kind h = (h, refl)
 
 -- why nothing was made of a document is why it has no image
-pub past_of : (s t : Tree) (e : Error) → s ≡ t → IsDocument t → ArchiveRefused s e → IsPast t e
-past_of s t e same document h =
-    let whole = subst IsDocument (sym same) document in
-    let of_value = value_denotes_law s whole in
-    subst (λ u. IsPast u e) same (node_value s, of_value.0, of_value.1, (refused_is_past_law s (node_value s) e whole of_value.0 of_value.1).0 h)
+pub past_of : (s t : Tree) (e : Error) → s ≡ t → IsDocument t → HasNoWholes t → ArchiveRefused s e → IsPast t e
+past_of s t e same document none h =
+    let is_document = subst IsDocument (sym same) document in
+    let of_value = value_denotes_law s is_document (subst HasNoWholes (sym same) none) in
+    subst (λ u. IsPast u e) same (node_value s, of_value.0, of_value.1, (refused_is_past_law s (node_value s) e is_document of_value.0 of_value.1).0 h)
 
 -- what was made of a document is its image
 pub image_made : (s t : Tree) (bytes : List ℕ) → s ≡ t → IsDocument t → ArchiveFits s → bytes ≡ archive_of s → Image t bytes

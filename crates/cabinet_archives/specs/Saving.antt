@@ -11,19 +11,22 @@ use Rattle.cabinet_archived.specs.Documents.Node.{node_shape, node_names}
 use Rattle.cabinet_archived.specs.Documents.Denotes.{Denotes}
 use Rattle.cabinet_archived.specs.Documents.Fitted.{IsFitted}
 use Rattle.cabinet_archived.specs.Documents.Image.{Image}
+use Rattle.cabinet_archived.specs.Documents.NoWholes.{HasNoWholes}
 use Rattle.cabinet_archives.specs.declared.saving.saving.SaveRefusal.{SaveRefusal}
-use Rattle.cabinet_archives.specs.declared.saving.saving.SaveRefusal.TheVariants.{Limit, Writer, OutOfMemory}
+use Rattle.cabinet_archives.specs.declared.saving.saving.SaveRefusal.TheVariants.{Limit, Writer, OutOfMemory, Kind}
 
 -- what a document's value stores exceeds a limit, which the error `e` reports, where the pairs of each hashed map are in
 -- the order that first fit gives them
 abbrev pub IsPast : Tree → Error → Type 0
 IsPast t e = (v : Value) × Denotes v t × IsFitted v × PastLimits (first_fit text_hash) node_names node_shape v e
 
--- why a document has no image in memory: something in it exceeds what archives can hold, or an allocation failed
+-- why a document has no image in memory: something in it exceeds what archives can hold, an allocation failed, or it has
+-- wholes
 abbrev pub HasNoImageFor : Tree → SaveRefusal → Type 0
-HasNoImageFor t (Limit e) = IsPast t e
+HasNoImageFor t (Limit e) = HasNoWholes t × IsPast t e
 HasNoImageFor t (Writer e) = ⊥
-HasNoImageFor t OutOfMemory = Unit {0}
+HasNoImageFor t OutOfMemory = HasNoWholes t
+HasNoImageFor t Kind = HasNoWholes t → ⊥
 
 -- an image of the document was written
 pub record Saved (t : Tree) (old new : List ℕ) : Type 0 where
@@ -37,11 +40,13 @@ LosesImage w t old new =
     (image : List ℕ) → Image t image → IsTrue w.OBSERVABLE → length (w.contents new) < length (w.contents old) + length image
 
 -- why no image was written: something in the document exceeds what archives can hold, and the writer is unchanged; a
--- write failed with the writer's last error, and its count of failures rose by one; or an allocation failed, before
--- anything was written or in a writer that counts no failures, and some of the image was lost
+-- write failed with the writer's last error, and its count of failures rose by one; an allocation failed, before anything
+-- was written or in a writer that counts no failures, and some of the image was lost; or the document has wholes, and the
+-- writer is unchanged
 abbrev pub IsUnsavedFor : {W : Type 0} → WriterMembers W
     → Tree → (old new : W) → SaveRefusal → Type 0
-IsUnsavedFor w t old new (Limit e) = IsPast t e × (new ≡ old)
-IsUnsavedFor w t old new (Writer e) = (w.COUNTS ≡ true) × (w.failures new ≡ w.failures old + 1) × (w.last_error new ≡ e)
+IsUnsavedFor w t old new (Limit e) = HasNoWholes t × IsPast t e × (new ≡ old)
+IsUnsavedFor w t old new (Writer e) = HasNoWholes t × (w.COUNTS ≡ true) × (w.failures new ≡ w.failures old + 1) × (w.last_error new ≡ e)
 IsUnsavedFor w t old new OutOfMemory =
-    ((new ≡ old) ⊎ (w.COUNTS ≡ false)) × (w.failures new ≡ w.failures old) × LosesImage w t old new
+    HasNoWholes t × ((new ≡ old) ⊎ (w.COUNTS ≡ false)) × (w.failures new ≡ w.failures old) × LosesImage w t old new
+IsUnsavedFor w t old new Kind = (HasNoWholes t → ⊥) × (new ≡ old)

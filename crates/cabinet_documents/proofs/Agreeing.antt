@@ -24,7 +24,7 @@ use Rattle.archive_index_spelling.specs.Resolvers.{resolver_of, positions_of}
 use Rattle.archive_index_spelling.proofs.Agreeing.{index_agrees}
 use Rattle.cabinet_text_grammar.specs.Keys.{ordered, hashed, kept}
 use Rattle.cabinet_text_grammar.specs.Tree as document
-use Rattle.cabinet_text_grammar.specs.Tree.{Tree, Trees, Pairs, leaf, shared, nothing, just, list, map, no_trees, more_trees, no_pairs, more_pairs, depth, most_depth, pairs_depth}
+use Rattle.cabinet_text_grammar.specs.Tree.{Tree, Trees, Pairs, leaf, shared, nothing, just, list, map, whole, no_trees, more_trees, no_pairs, more_pairs, depth, most_depth, pairs_depth}
 use Rattle.cabinet_documents.specs.Node.{node_shape, pair_shape, payloads}
 use Rattle.cabinet_documents.specs.declared.spelling.resolver.NodeResolver.{NodeResolver}
 use Rattle.cabinet_documents.specs.declared.spelling.resolver.NodeResolver.TheVariants as resolver
@@ -199,6 +199,7 @@ level_agrees w u (map kept ps) same =
     let all = index_agrees (pair_spelling w) (pair_spelling u) pair_shape 7 8 hash xs pairs in
     let one = kept_agree (index_spelling 7 8 pair_shape (pair_spelling w) hash) (index_spelling 7 8 pair_shape (pair_spelling u) hash) xs all resolver_of positions_of in
     node_of_agrees (kept_spelling w) (kept_spelling u) xs one 8 (index_map text node_shape) resolver.Kept kept_in (map kept ps)
+level_agrees w u (whole t) same = refl
 
 pub node_said : (t : Tree) → said (node_level node_spelling) t ≡ said node_spelling t
 node_said = self_agrees node_level refused depth level_agrees

@@ -5,7 +5,8 @@ use Rattle.archive_forms_values.specs.ShapeLayout.Holds.{Region, Visit, root_pos
 use Rattle.archive_forms_values.specs.ShapeCanonical.Canonical.{CanonicalArchive}
 use Rattle.archive_forms_values.specs.ShapeCanonical.FirstFit.{first_fit}
 use Rattle.archive_forms_values.specs.ShapeCanonical.Hash.{text_hash}
-use Rattle.cabinet_text_grammar.specs.Tree.{Tree, IsDocument}
+use Rattle.cabinet_text_grammar.specs.Tree.{Tree}
+use Rattle.cabinet_text_grammar.specs.Wholes.{IsDocument}
 use Rattle.cabinet_documents.specs.Audit.{root_part}
 use Rattle.cabinet_documents.specs.Denotes.{Denotes}
 use Rattle.cabinet_documents.specs.Fitted.{IsFitted}

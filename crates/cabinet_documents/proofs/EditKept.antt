@@ -15,7 +15,8 @@ use Rattle.archive_forms_values.specs.ShapeCanonical.Laws.{AvoidsKeys}
 use Rattle.archive_forms_values.specs.ArchiveShape.Bytes.{overwrite}
 use Rattle.archive_forms_values.specs.ArchiveShape.Sealing.{StandsInRoot}
 use Rattle.archive_forms_values.proofs.ArchiveShape.Written.{length-overwrite, overwrite_spares_law}
-use Rattle.cabinet_text_grammar.specs.Tree.{Leaf, Tree, leaf, IsLeaf, IsDocument}
+use Rattle.cabinet_text_grammar.specs.Tree.{Leaf, Tree, leaf, IsLeaf}
+use Rattle.cabinet_text_grammar.specs.Wholes.{IsDocument}
 use Rattle.cabinet_text_grammar.specs.Path.{Step, node_at}
 use Rattle.cabinet_text_grammar.specs.Answering.{fits, change}
 use Rattle.cabinet_text_grammar.proofs.Changes.{change_keeps_document}

@@ -56,7 +56,7 @@ five_is_accepted = record {
   walk = stop_one ∷ (stop_two ∷ (stop_three ∷ (stop_four ∷ [])));
   root = record { holds = holds_claimed refl tt (holds_more (holds_plain refl tt (holds_more (holds_plain refl tt (holds_more (holds_plain refl tt (holds_none refl refl refl) refl) (holds_none refl refl refl) refl refl) refl) (holds_none refl refl refl) refl refl) refl) (holds_none refl refl refl) refl refl) refl refl; ascends = (record { after = omega arith; aligned = refl; inside = omega arith }, tt) };
   denotes = denotes_number {n = pos 5} refl refl;
-  document = (record { sfits = omega arith }, omega arith);
+  document = (record { sfits = omega arith }, omega arith, omega arith);
   walked = walks (walk_more (walks (walk_more (walks (walk_more (walks (walk_none refl refl) refl refl) (walk_none refl refl) refl refl) refl refl) (walk_none refl refl) refl refl) refl refl) (walk_none refl refl) refl refl) refl refl;
   sound = sound_of_more bytes_five stop_one (stop_two ∷ (stop_three ∷ (stop_four ∷ []))) (λ e. omega arith, tt)
       (sound_of_more bytes_five stop_two (stop_three ∷ (stop_four ∷ [])) (λ e. omega arith, tt)

@@ -22,8 +22,12 @@ use Rattle.cabinet_documents.proofs.Standing.{sound_walk}
 use Rattle.cabinet_documents.specs.Spelling.{node_spelling}
 use Rattle.cabinet_documents.specs.SpellingLaws.{WrittenIsImage, OneImage}
 use Rattle.cabinet_documents.proofs.Levels.{node_spells_law}
-use Rattle.cabinet_documents.proofs.Values.{text_keys, text_keys_differ, node_agrees, one_value_law}
+use Rattle.cabinet_documents.proofs.Values.{value_of, text_keys, text_keys_differ, node_agrees, one_value_law}
 use Rattle.cabinet_documents.proofs.SpellingDenoted.{denoted}
+use Rattle.cabinet_documents.proofs.HeldNodes.{none_seen, held}
+use Rattle.cabinet_documents.proofs.NoWholes.{value_has_no_wholes}
+use Rattle.cabinet_documents.proofs.Opening.{of_tree}
+use Rattle.cabinet_documents.proofs.Places.{node_behind}
 
 -- ---- where regions begin
 
@@ -86,7 +90,9 @@ written_is_image_law t bytes document f e =
     let v = node_spelling.value t initial in
     let root = archive.canonical.root in
     let pos = root_position (length bytes) node_shape in
-    let denotes = denoted t v document.0 (written.plain ∙ agrees.plain) in
+    let same : erased v ≡ value_of t = written.plain ∙ agrees.plain in
+    let some = of_tree (held bytes root.holds node_behind pos refl (none_seen bytes)).value in
+    let denotes = denoted t v document.0 (value_has_no_wholes t v some.tree document.0 some.denotes same) same in
     let tables = canonical_tables bytes v archive.regions archive.visits archive.canonical t denotes document in
     let walk = sound_walk bytes t v archive.regions archive.visits root denotes document tables in
     let low = root_low t bytes f e in

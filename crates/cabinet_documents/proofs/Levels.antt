@@ -42,7 +42,7 @@ use Rattle.archive_index_spelling.proofs.Maps.{index_spells_at}
 use Rattle.cabinet_text_grammar.specs.Keys.{ordered, hashed, kept}
 use Rattle.cabinet_text_grammar.specs.TextKey.{text_key}
 use Rattle.cabinet_text_grammar.specs.Tree as document
-use Rattle.cabinet_text_grammar.specs.Tree.{Tree, Trees, Pairs, leaf, shared, nothing, just, list, map, no_trees, more_trees, no_pairs, more_pairs, depth, most_depth, pairs_depth}
+use Rattle.cabinet_text_grammar.specs.Tree.{Tree, Trees, Pairs, leaf, shared, nothing, just, list, map, whole, no_trees, more_trees, no_pairs, more_pairs, depth, most_depth, pairs_depth}
 use Rattle.cabinet_documents.specs.Node.{KnowsNode, node_shape, pair_shape, payloads}
 use Rattle.cabinet_documents.specs.declared.spelling.resolver.NodeResolver.{NodeResolver}
 use Rattle.cabinet_documents.specs.declared.spelling.resolver.NodeResolver.TheVariants as resolver
@@ -143,6 +143,16 @@ module _ (fit : Fit) where
         node_of_spells 8 (index_map text node_shape) (kept_spelling w) resolver.Kept kept_in (λ r. refl) (omega arith) refl xs (map kept ps)
         (kept_spells_at fit (index_map text node_shape) KnowsNode resolver_of positions_of (λ r. refl) (index_spelling 7 8 pair_shape (pair_spelling w) hash) xs
         (index_spells_at fit text node_shape KnowsNode (pair_spelling w) 7 8 hash xs (text_hashes_small (λ p. p.0) xs) (each_pair_below n ps less below)))
+    case_spells n (whole t) less below = record {
+      sized = λ r pos fits. absurd fits;
+      canonical = λ st pos names keys bytes level inside k n met state over fits own p q. absurd fits;
+      consistent = λ st state fits. absurd fits;
+      keyed = λ keys st n met fits. absurd fits;
+      piece_bytes = λ st fits. absurd fits;
+      own_bytes = λ r pos fits. absurd fits;
+      piece_exact = λ st e fits past. fits;
+      own_exact = λ r pos e fits past. fits;
+    }
 
     level_spells : (n : ℕ) (t : Tree) → depth t ≤ n → ((y : Tree) → suc (depth y) ≤ n → SpellsAt fit node_shape KnowsNode w y)
         → SpellsAt fit node_shape KnowsNode (node_level w) t

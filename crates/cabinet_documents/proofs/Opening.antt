@@ -21,6 +21,7 @@ use Rattle.cabinet_documents.proofs.Nodes.{NodeValue, truth_value, number_value,
 use Rattle.cabinet_documents.proofs.HeldNodes.{none_seen, held}
 use Rattle.cabinet_documents.proofs.Arranged.{AreEachLegal, arranged_pairs, kept_pairs, arranged_count}
 use Rattle.cabinet_documents.proofs.ByKey.{AreKeysDistinct, pair_keys}
+use Rattle.cabinet_documents.proofs.NoWholes.{few_wholes, denoted_has_no_wholes}
 use Rattle.cabinet_documents.proofs.FoundKeys.{no_left, no_right}
 use Rattle.cabinet_documents.proofs.Keyed.{AscendAfter, first_after, keys_denoted}
 use Rattle.cabinet_documents.proofs.Heights.{Keyed, AllKeyed, height_is}
@@ -168,5 +169,5 @@ accepted_stands_law bytes v regions visits walk small root walked none =
     let legal = r.legal small (p.keyed sound).1 in
     record {
       tree = r.tree;
-      accepted = accepted_by bytes r.tree v regions visits root r.denotes (legal, omega (arith, p.peak_is, high, low)) (record { walk = walk; walked = walked; sound = sound_tables bytes walk sound });
+      accepted = accepted_by bytes r.tree v regions visits root r.denotes (legal, omega (arith, p.peak_is, high, low), few_wholes r.tree (denoted_has_no_wholes r.denotes)) (record { walk = walk; walked = walked; sound = sound_tables bytes walk sound });
     }

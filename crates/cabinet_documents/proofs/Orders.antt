@@ -6,7 +6,7 @@ use Rattle.archive_forms_values.specs.ShapeLayout.Edit.{Apart}
 use Rattle.archive_forms_values.specs.ShapeLayout.Holds.{root_position}
 use Rattle.archive_forms_values.specs.ArchiveShape.Bytes.{overwrite}
 use Rattle.archive_forms_values.proofs.ArchiveShape.Written.{overwrites_commute}
-use Rattle.cabinet_text_grammar.specs.Tree.{Leaf, Tree, leaf, shared, nothing, just, list, map, Trees, no_trees, more_trees, Pairs, no_pairs, more_pairs}
+use Rattle.cabinet_text_grammar.specs.Tree.{Leaf, Tree, leaf, shared, nothing, just, list, map, whole, Trees, no_trees, more_trees, Pairs, no_pairs, more_pairs}
 use Rattle.cabinet_text_grammar.specs.Path.{Step, key, place, inside, node_at, node_in, node_by}
 use Rattle.cabinet_text_grammar.specs.Answering.{change, change_in, change_by}
 use Rattle.cabinet_documents.specs.Node.{node_shape, own_bytes}
@@ -107,6 +107,9 @@ mutual
   both (map kind ps) (key a ∷ path) (key b ∷ other) k h l m e f differ =
       let r = both_by ps a b path other k h l m e f (λ q p. differ (ap₂ (λ x y. key x ∷ y) q p)) in
       record { same_document = ap (map kind) r.same_pairs; stays = r.stays; other_stays = r.other_stays }
+  both (whole t) [] other k h l m e f differ = absurd (cc)
+  both (whole t) (step ∷ path) [] k h l m e f differ = absurd (cc)
+  both (whole t) (step ∷ path) (next ∷ other) k h l m e f differ = record { same_document = refl; stays = refl; other_stays = refl }
 
   both_in : (ts : Trees) (i j : ℕ) (path other : List Step) (k h l m : Leaf) → node_in ts i path ≡ Some (leaf k) → node_in ts j other ≡ Some (leaf h) → (i ≡ j → path ≡ other → ⊥) → BothIn ts i j path other l m
   both_in no_trees i j path other k h l m e f differ = absurd (cc)

@@ -7,7 +7,8 @@ use Rattle.archive_forms_values.specs.ShapeLayout.Content.{shape_content, number
 use Rattle.archive_forms_values.specs.ArchiveShape.Offsets.{FitsOffset}
 use Rattle.archive_forms_values.proofs.FormsLaws.Gaps.{bytes_number}
 use Rattle.cabinet_text_grammar.proofs.Utf8.{IsUtf8-word}
-use Rattle.cabinet_text_grammar.specs.Tree.{Tree, IsDocument, list, no_trees, more_trees}
+use Rattle.cabinet_text_grammar.specs.Tree.{Tree, list, no_trees, more_trees}
+use Rattle.cabinet_text_grammar.specs.Wholes.{IsDocument}
 use Rattle.cabinet_documents.specs.Laws.{bytes_five}
 use Rattle.cabinet_documents.specs.SpellingLaws.{ArchiveFits, SamplesAreSpelled, SamplesAreImages, five, list_of_five_bytes, shared_twice, shared_twice_bytes}
 use Rattle.cabinet_documents.proofs.Imaged.{written_is_image_law}
@@ -42,10 +43,10 @@ list_fits =
     )
 
 five_document : IsDocument five
-five_document = (record { sfits = omega arith }, omega arith)
+five_document = (record { sfits = omega arith }, omega arith, omega arith)
 
 list_document : IsDocument list_of_five
-list_document = (((record { sfits = omega arith }, tt), omega arith), omega arith)
+list_document = (((record { sfits = omega arith }, tt), omega arith), omega arith, omega arith)
 
 shared_fits : ArchiveFits shared_twice
 unfolding align_up
@@ -66,7 +67,7 @@ shared_fits =
     )
 
 shared_document : IsDocument shared_twice
-shared_document = (((text, (text, tt)), omega arith), omega arith)
+shared_document = (((text, (text, tt)), omega arith), omega arith, omega arith)
 
 pub samples_are_images_law : SamplesAreImages
 unfolding align_up

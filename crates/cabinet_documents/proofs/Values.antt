@@ -20,7 +20,7 @@ use Rattle.cabinet_text_grammar.specs.Keys.{MapKind, ordered, hashed, kept}
 use Rattle.cabinet_text_grammar.specs.TextKey.{text_key, text_of_key}
 use Rattle.cabinet_text_grammar.proofs.KeyLemmas.{key_has_text_law, text_has_key_law}
 use Rattle.cabinet_text_grammar.specs.Tree as document
-use Rattle.cabinet_text_grammar.specs.Tree.{Tree, Trees, Pairs, leaf, shared, nothing, just, list, map, no_trees, more_trees, no_pairs, more_pairs, depth, most_depth, pairs_depth, IsLegal, AreLegal, ArePairs}
+use Rattle.cabinet_text_grammar.specs.Tree.{Tree, Trees, Pairs, leaf, shared, nothing, just, list, map, whole, no_trees, more_trees, no_pairs, more_pairs, depth, most_depth, pairs_depth, IsLegal, AreLegal, ArePairs}
 use Rattle.cabinet_documents.specs.Node.{pair_shape}
 use Rattle.cabinet_documents.specs.Denotes.{tagged_value, pair_value, Denotes, DenoteAll, DenotePairs}
 use Rattle.cabinet_documents.specs.Denotes.Denotes.{denotes_truth, denotes_number, denotes_text, denotes_shared, denotes_nothing, denotes_some, denotes_list, denotes_ordered, denotes_hashed, denotes_kept}
@@ -49,6 +49,7 @@ abbrev mutual
   value_of (map ordered ps) = tagged_value 6 (group (values_of_pairs ps))
   value_of (map hashed ps) = tagged_value 7 (group (by_first_fit (values_of_pairs ps)))
   value_of (map kept ps) = tagged_value 8 (group (values_of_pairs ps))
+  value_of (whole t) = group no_values
 
   pub values_of : Trees → Values
   values_of no_trees = no_values
@@ -170,6 +171,7 @@ module _ (w : Spelling Tree NodeResolver) where
         plain = ap (λ vs. tagged_value 8 (group vs)) all.plain;
         suits = λ legal. (all.suits kept [] legal.0, pairs_kept (pairs_in ps));
       }
+  level_agrees n each (whole t) less = record { plain = refl; suits = λ legal. tt }
 
 levels_agree : (n : ℕ) (t : Tree) → depth t ≤ n → Agrees (levels_spelling node_level refused (suc n)) t
 levels_agree zero t less = level_agrees refused zero (λ y h. absurd (omega (arith, h))) t less

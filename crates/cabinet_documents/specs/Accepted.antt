@@ -4,7 +4,8 @@ use Rattle.std.specs.List.{Contains}
 use Rattle.archive_forms_values.specs.ShapeLayout.Value.{Value}
 use Rattle.archive_forms_values.specs.ShapeLayout.Holds.{Region, Visit, HasRoot, root_position}
 use Rattle.cabinet_documents.specs.Node.{node_shape, node_names}
-use Rattle.cabinet_text_grammar.specs.Tree.{Tree, IsDocument}
+use Rattle.cabinet_text_grammar.specs.Tree.{Tree}
+use Rattle.cabinet_text_grammar.specs.Wholes.{IsDocument}
 use Rattle.cabinet_documents.specs.Denotes.{Denotes}
 use Rattle.cabinet_documents.specs.Walk.{Stop, Walks}
 use Rattle.cabinet_documents.specs.Audit.{root_part, IsSound}

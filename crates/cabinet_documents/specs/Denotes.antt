@@ -18,7 +18,7 @@ pair_value k v = group (more_values (string k) (more_values v no_values))
 
 mutual
   -- by the nine tags; the position of a shared text is left out, and a hashed map's pairs are put in the order of their
-  -- keys
+  -- keys; no value denotes a whole
   pub data Denotes : Value → Tree → Type 0 where
     denotes_truth : {v : Value} {t : Tree} {b : Bool} → v ≡ tagged_value 0 (boolean b) → t ≡ leaf (truth b) → Denotes v t
     denotes_number : {v : Value} {t : Tree} {n : ℤ} → v ≡ tagged_value 1 (integer n) → t ≡ leaf (number n) → Denotes v t

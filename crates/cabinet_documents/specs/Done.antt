@@ -1,4 +1,4 @@
--- When an edit of a document is done.
+-- When an edit of a document without wholes is done.
 use Rattle.std.specs.Prelude.{◌≡◌, true, List, Some}
 use Rattle.cabinet_text_grammar.specs.Tree.{Leaf, Tree, leaf}
 use Rattle.cabinet_text_grammar.specs.Path.{Step, node_at}

@@ -15,7 +15,8 @@ use Rattle.archive_forms_values.specs.ArchiveShape.Bytes.{overwrite}
 use Rattle.cabinet_text_grammar.specs.Tree.{Leaf, truth, number, text, IsLeaf}
 use Rattle.cabinet_text_grammar.specs.Path.{Step}
 use Rattle.cabinet_documents.specs.Node.{node_names, node_shape, own_bytes}
-use Rattle.cabinet_text_grammar.specs.Tree.{Tree, leaf, IsDocument}
+use Rattle.cabinet_text_grammar.specs.Tree.{Tree, leaf}
+use Rattle.cabinet_text_grammar.specs.Wholes.{IsDocument}
 use Rattle.cabinet_text_grammar.specs.Path.{node_at}
 use Rattle.cabinet_text_grammar.specs.Answering.{change}
 use Rattle.cabinet_documents.specs.Done.{IsDone}

@@ -5,6 +5,7 @@ pub mod Done
 pub mod Fitted
 pub mod Image
 pub mod Laws
+pub mod NoWholes
 pub mod Node
 pub mod Order
 pub mod OwnBytes

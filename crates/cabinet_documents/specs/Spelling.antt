@@ -32,7 +32,7 @@ use Rattle.archive_index_spelling.specs.declared.resolver.IndexMapResolver.{Inde
 use Rattle.cabinet_text_grammar.specs.Keys.{ordered, hashed, kept}
 use Rattle.cabinet_text_grammar.specs.TextKey.{text_key}
 use Rattle.cabinet_text_grammar.specs.Tree as document
-use Rattle.cabinet_text_grammar.specs.Tree.{Tree, Trees, Pairs, leaf, shared, nothing, just, list, map, no_trees, more_trees, no_pairs, more_pairs, depth}
+use Rattle.cabinet_text_grammar.specs.Tree.{Tree, Trees, Pairs, leaf, shared, nothing, just, list, map, whole, no_trees, more_trees, no_pairs, more_pairs, depth}
 use Rattle.cabinet_documents.specs.Node.{node_shape, pair_shape, payloads}
 use Rattle.cabinet_documents.specs.declared.spelling.resolver.NodeResolver.{NodeResolver}
 use Rattle.cabinet_documents.specs.declared.spelling.resolver.NodeResolver.TheVariants as resolver
@@ -125,7 +125,7 @@ abbrev pub node_of : {A R : Type 0} → ℕ → Shape → Spelling A R → (R �
 node_of tag s w make get x =
     kept_as make get (seen_as (λ _. x) (payload_spelling tag (align_up 1 (align_of s)) (size_of (choice payloads)) w))
 
--- where no level is left, nothing is archived; a document has as many levels as it is deep
+-- of a whole, and where no level is left, nothing is archived; a document has as many levels as it is deep
 abbrev pub refused : Spelling Tree NodeResolver
 refused = record {
   value = λ t st. group no_values;
@@ -153,6 +153,7 @@ spelling_of w (list ts) = node_of 5 (vector node_shape) (list_spelling w) resolv
 spelling_of w (map ordered ps) = node_of 6 (tree 5 text node_shape) (ordered_spelling w) resolver.Ordered ordered_in (pairs_in ps)
 spelling_of w (map hashed ps) = node_of 7 (table pair_shape) (hashed_spelling w) resolver.Hashed hashed_in (pairs_in ps)
 spelling_of w (map kept ps) = node_of 8 (index_map text node_shape) (kept_spelling w) resolver.Kept kept_in (pairs_in ps)
+spelling_of w (whole t) = refused
 
 -- the spelling of each document, by its case
 abbrev pub node_level : Spelling Tree NodeResolver → Spelling Tree NodeResolver

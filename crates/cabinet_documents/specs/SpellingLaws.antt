@@ -12,8 +12,10 @@ use Rattle.archive_forms_values.specs.FormsLaws.State.{State, initial}
 use Rattle.archive_forms_values.specs.FormsLaws.Spells.{Spells}
 use Rattle.archive_forms_values.specs.FormsLaws.Serializing.{Serializes}
 use Rattle.archive_forms_values.specs.FormsLaws.Regions.{region_fits, region_piece, region_refused}
-use Rattle.cabinet_text_grammar.specs.Tree.{Tree, IsDocument, leaf, number, shared, list, no_trees, more_trees}
+use Rattle.cabinet_text_grammar.specs.Tree.{Tree, leaf, number, shared, list, no_trees, more_trees}
+use Rattle.cabinet_text_grammar.specs.Wholes.{IsDocument}
 use Rattle.cabinet_documents.specs.Node.{node_shape, node_names, KnowsNode}
+use Rattle.cabinet_documents.specs.NoWholes.{HasNoWholes}
 use Rattle.cabinet_documents.specs.Denotes.{Denotes}
 use Rattle.cabinet_documents.specs.Fitted.{IsFitted}
 use Rattle.cabinet_documents.specs.Image.{Image}
@@ -24,9 +26,9 @@ use Rattle.cabinet_documents.specs.Spelling.{node_level, node_spelling, node_val
 abbrev pub NodeSpells : Type 0
 NodeSpells = (fit : Fit) → Spells fit node_shape KnowsNode node_spelling
 
--- the value of a document denotes it, and its hashed maps are in the order of first fit
+-- the value of a document without wholes denotes it, and its hashed maps are in the order of first fit
 abbrev pub ValueDenotes : Type 0
-ValueDenotes = (t : Tree) → IsDocument t → Denotes (node_value t) t × IsFitted (node_value t)
+ValueDenotes = (t : Tree) → IsDocument t → HasNoWholes t → Denotes (node_value t) t × IsFitted (node_value t)
 
 -- no other value in that order denotes it, except for the positions of shared texts
 abbrev pub OneValue : Type 0

@@ -62,6 +62,11 @@ fn faults_are_written_as_lines(rt: HostRuntime) -> Result<(), Fail> {
             1,
         ),
         (
+            Fault::Save(SaveRefusal::Kind),
+            b"cab: save: Kind\n".as_slice(),
+            1,
+        ),
+        (
             Fault::Open(OpenRefusal::Access(Error::InvalidTag)),
             b"cab: open: Access\n".as_slice(),
             1,
@@ -136,6 +141,10 @@ fn refusals_and_faults_of_runs_are_printed(rt: HostRuntime) {
             "the writer failed: the writer failed",
         ),
         (SaveRefusal::OutOfMemory, "out of memory"),
+        (
+            SaveRefusal::Kind,
+            "a kind of node has no layout in archives",
+        ),
     ];
     for (refusal, text) in refusals {
         is_printed_as(&rt, &refusal, text);

@@ -4,7 +4,7 @@ use archive_core_serializing::Buffer;
 use archive_shape_writing::{Error, Positional};
 use cabinet_doubles::archives::{A_TO_WORLD, COFFEE_AND_TEA, SIX, VAT_IN_EU, Z_AND_A};
 use cabinet_doubles::cabinet::{
-    Document, Line, Node, SaveRefusal, check, open, read_text, save, work,
+    Document, Line, Node, SaveRefusal, check, open, read_text, save, to_bytes, work,
 };
 use cabinet_doubles::{FailingWriter, SliceSource};
 use std::alloc::Global;
@@ -115,6 +115,25 @@ fn documents_are_written_as_their_images(rt: HostRuntime) -> Result<(), Fail> {
         let bytes = archive_of(rt.alloc(), text)?;
         assert!(rt; bytes.as_slice() == image);
         assert!(rt; check(rt.alloc(), &bytes) == Ok(()));
+    }
+    Ok(())
+}
+
+#[test]
+fn documents_with_wholes_are_not_saved(rt: HostRuntime) -> Result<(), Fail> {
+    let texts = [
+        b"wholes 1\nint 5\nwhole 0\n".as_slice(),
+        b"wholes 1\nint 5\nlist 2\nwhole 0\nwhole 0\n",
+        b"wholes 2\nint 1\nlist 2\nwhole 0\nwhole 0\nordered 1\n'a\nsome\nwhole 1\n",
+    ];
+    for text in texts {
+        let document = read_text(rt.alloc(), text).map_err(|_| "no document")?;
+        let mut archive = Vec::new(rt.alloc());
+        let refusal = save(rt.alloc(), &document, &mut archive);
+        assert!(rt; refusal == Err(SaveRefusal::Kind));
+        assert!(rt; archive.is_empty());
+        let refusal = to_bytes(rt.alloc(), &document).err();
+        assert!(rt; refusal == Some(SaveRefusal::Kind));
     }
     Ok(())
 }

@@ -1,8 +1,6 @@
-//! Answers questions about documents of nine kinds of nodes.
+//! Answers questions about documents of ten kinds of nodes.
 
 mod keys;
 mod question;
-mod walk;
 
 pub use question::answer;
-pub use walk::node_at;

@@ -2,8 +2,8 @@
 ghost use Rattle.std.specs.Prelude.{◌≡◌, IfOk, MatchResult};
 ghost use Rattle.cabinet_text_copy.specs.Copying.{Refuses};
 
+use cabinet_text_nodes::write_text;
 use cabinet_text_reading::{TextRefusal, read_text};
-use cabinet_text_writing::write_text;
 use std::alloc::Global;
 use thiserror::Error;
 

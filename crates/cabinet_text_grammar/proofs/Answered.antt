@@ -1,7 +1,7 @@
 -- The answers are the stated ones: by computation.
 use Rattle.std.proofs.Common.{refl}
 use Rattle.std.specs.Fmt.{digits}
-use Rattle.cabinet_text_grammar.specs.Answers.{RangeInTheMiddle, RangeBetweenKeys, EmptyRange, ReversedRange, KeysOfTheKinds, HeadsOfTheKinds, MissingNodes, Edits, EditedText}
+use Rattle.cabinet_text_grammar.specs.Answers.{RangeInTheMiddle, RangeBetweenKeys, EmptyRange, ReversedRange, KeysOfTheKinds, HeadsOfTheKinds, MissingNodes, Edits, EditedText, AnswersInWholes}
 
 pub range_in_the_middle : RangeInTheMiddle
 unfolding digits
@@ -73,3 +73,14 @@ edits = record {
 pub edited_text : EditedText
 unfolding digits
 edited_text = refl
+
+pub answers_in_wholes : AnswersInWholes
+unfolding digits
+answers_in_wholes = record {
+  of_a_whole = record { is_spelled = refl; is_answered = refl };
+  into_a_whole = record { is_spelled = refl; is_answered = refl };
+  edit_in_a_whole = record { is_spelled = refl; is_answered = refl };
+  edit_of_a_whole = record { is_spelled = refl; is_answered = refl };
+  by_a_key = record { is_spelled = refl; is_answered = refl };
+  edit_past_the_end = record { is_spelled = refl; is_answered = refl };
+}

@@ -13,7 +13,7 @@ use Rattle.std.proofs.lemmas.Slice.Eq.{bytes_eq-Decides}
 use Rattle.std.proofs.lemmas.Str.{IsUtf8-from_is_utf8, is_utf8-from_IsUtf8}
 use Rattle.cabinet_text_grammar.specs.Keys.{MapKind, ordered, hashed, kept, IsAboveLast, MayFollow}
 use Rattle.cabinet_text_grammar.specs.Tree.{truth, number, text}
-use Rattle.cabinet_text_grammar.specs.Item.{Item, leaf_item, shared_item, none_item, some_item, list_item, map_item, key_item}
+use Rattle.cabinet_text_grammar.specs.Item.{Item, leaf_item, shared_item, none_item, some_item, list_item, map_item, key_item, whole_item, wholes_item, whole_head}
 use Rattle.cabinet_text_grammar.specs.declared.cause.Cause.{Cause}
 use Rattle.cabinet_text_grammar.specs.declared.cause.Cause.TheVariants.{OutOfMemory}
 use Rattle.cabinet_text_grammar.proofs.Escapes.{first_same, rest_same}
@@ -61,6 +61,9 @@ decide_item some_item = yes tt
 decide_item (list_item n) = decide_below n (2 ^ 64)
 decide_item (map_item kind n) = decide_below n (2 ^ 64)
 decide_item (key_item k) = decide_utf8 k
+decide_item (whole_item n) = decide_below n (2 ^ 64)
+decide_item (wholes_item n) = decide_below n (2 ^ 64)
+decide_item whole_head = yes tt
 
 -- a word and something after it
 abbrev pub IsAfter : List ℕ → List ℕ → Type 0

@@ -2,11 +2,12 @@
 use Rattle.std.proofs.Common.{◌≢◌, ℕ, ◌<◌, ◌^◌, pos, List, [], FitsSigned, w64, refl, arith, codes}
 use Rattle.std.specs.Fmt.{digits}
 use Rattle.std.proofs.lemmas.List.Elements.{All-nil, All-cons}
-use Rattle.cabinet_text_grammar.specs.Tree.{IsDocument, IsLegal}
+use Rattle.cabinet_text_grammar.specs.Tree.{IsLegal}
+use Rattle.cabinet_text_grammar.specs.Wholes.{IsDocument}
 use Rattle.cabinet_text_grammar.proofs.Escapes.{first_differs}
 use Rattle.cabinet_text_grammar.proofs.Utf8.{IsUtf8-word}
 use Rattle.cabinet_text_grammar.specs.Documents as documents
-use Rattle.cabinet_text_grammar.specs.Texts.{MapOfFour, ListOfEight}
+use Rattle.cabinet_text_grammar.specs.Texts.{MapOfFour, ListOfEight, WholeTwice}
 
 fits : (n : ℕ) → n < 2 ^ 63 → FitsSigned w64 (pos n)
 fits n below = record { sfits = omega (arith, below) }
@@ -35,6 +36,7 @@ map_is_document = (
     ),
     omega arith,
   ),
+  omega arith,
   omega arith,
 )
 
@@ -79,6 +81,7 @@ list_is_document = (
     omega arith,
   ),
   omega arith,
+  omega arith,
 )
 
 pub map_of_four : MapOfFour
@@ -88,3 +91,10 @@ map_of_four = record { is_document = map_is_document; is_spelled = refl }
 pub list_of_eight : ListOfEight
 unfolding digits
 list_of_eight = record { is_document = list_is_document; is_spelled = refl }
+
+pub whole_twice : WholeTwice
+unfolding digits
+whole_twice = record {
+  is_document = (((fits 5 (omega arith), (fits 5 (omega arith), tt)), omega arith), omega arith, omega arith);
+  is_spelled = refl;
+}

@@ -1,7 +1,10 @@
 mod Answered
 pub mod Changes
+pub mod Completed
+pub mod Completing
 pub mod Cuts
 pub mod Decided
+pub mod Equal
 pub mod Escapes
 mod ExamplesFaults
 mod ExamplesTexts
@@ -11,12 +14,17 @@ pub mod Items
 pub mod KeyLemmas
 pub mod Lacking
 pub mod Legal
+pub mod LegalStages
 pub mod Lines
 pub mod Pieces
 pub mod ReadBack
 pub mod Runs
 pub mod Spelled
+pub mod Stages
+pub mod Start
 pub mod Steps
+pub mod Tables
+pub mod TreeTexts
 pub mod Utf8
 pub mod Verdicts
 pub mod Whole

@@ -10,9 +10,9 @@ use Rattle.std.proofs.lemmas.Bool.{false≢true}
 use Rattle.std.proofs.lemmas.Bool.Decides.{eqb_tells}
 use Rattle.cabinet_text_grammar.specs.Keys.{ordered, hashed, kept}
 use Rattle.cabinet_text_grammar.specs.Tree.{truth, number, text, IsLeaf}
-use Rattle.cabinet_text_grammar.specs.Item.{Item, leaf_item, shared_item, none_item, some_item, list_item, map_item, key_item}
+use Rattle.cabinet_text_grammar.specs.Item.{Item, leaf_item, shared_item, none_item, some_item, list_item, map_item, key_item, whole_item, wholes_item, whole_head}
 use Rattle.cabinet_text_grammar.specs.Spelling.{escaped, escaped_byte, spelled}
-use Rattle.cabinet_text_grammar.specs.Fault.{HasBadEscape, HasBadNumber, bad_number, bad_count}
+use Rattle.cabinet_text_grammar.specs.Fault.{HasBadEscape, HasBadNumber, bad_number, bad_count, HasBadWholes}
 use Rattle.cabinet_text_grammar.proofs.Escapes.{Form, backslash, newline, space, plain, form_of}
 use Rattle.cabinet_text_grammar.proofs.Lacking.{own}
 
@@ -25,6 +25,9 @@ IsItem some_item = Unit {0}
 IsItem (list_item n) = n < 2 ^ 64
 IsItem (map_item kind n) = n < 2 ^ 64
 IsItem (key_item k) = IsUtf8 k
+IsItem (whole_item n) = n < 2 ^ 64
+IsItem (wholes_item n) = n < 2 ^ 64
+IsItem whole_head = Unit {0}
 
 -- the byte that a letter after a backslash represents
 unescaped_byte : ℕ → ℕ
@@ -75,7 +78,7 @@ signed_value-signed (pos n) fits =
 signed_value-signed (negsuc n) fits =
     ap (λ v. negsuc (v - 1)) (digits_value-decimal own (suc n) (omega (arith, fits.sfits))) ∙ ap negsuc (omega arith)
 
--- by the first byte of a line, the second of `shared` and `some`, and the sixth of a truth value's
+-- by the first byte of a line, the second of `shared` and `some`, and the sixth of a truth value's and a whole's
 unfoldable pub item_of_line : List ℕ → Item
 item_of_line line =
     if get_or line 0 0 == 98 then leaf_item (truth (get_or line 5 0 == 116))
@@ -87,7 +90,8 @@ item_of_line line =
     else (if get_or line 0 0 == 111 then map_item ordered (digits_value 10 (drop 8 line))
     else (if get_or line 0 0 == 104 then map_item hashed (digits_value 10 (drop 7 line))
     else (if get_or line 0 0 == 107 then map_item kept (digits_value 10 (drop 5 line))
-    else key_item (unescaped (drop 1 line))))))))))
+    else (if get_or line 0 0 == 119 then (if get_or line 5 0 == 32 then whole_item (digits_value 10 (drop 6 line)) else (if get_or line 5 0 == 115 then wholes_item (digits_value 10 (drop 7 line)) else whole_head))
+    else key_item (unescaped (drop 1 line)))))))))))
 
 pub read_back : (i : Item) → IsItem i → item_of_line (spelled i) ≡ i
 unfolding item_of_line
@@ -103,6 +107,9 @@ read_back (map_item ordered n) p = ap (map_item ordered) (digits_value-decimal o
 read_back (map_item hashed n) p = ap (map_item hashed) (digits_value-decimal own n p)
 read_back (map_item kept n) p = ap (map_item kept) (digits_value-decimal own n p)
 read_back (key_item k) p = ap key_item (unescaped-escaped k)
+read_back (whole_item n) p = ap whole_item (digits_value-decimal own n p)
+read_back (wholes_item n) p = ap wholes_item (digits_value-decimal own n p)
+read_back whole_head p = refl
 
 pub same_item : (i j : Item) → IsItem i → IsItem j → spelled i ≡ spelled j → i ≡ j
 same_item i j p q h = sym (read_back i p) ∙ ap item_of_line h ∙ read_back j q
@@ -135,5 +142,10 @@ no_bad_number i p (bad_count rest (inr (inl h)) bad) =
     count_read (codes "ordered ") rest (map_item ordered) i (λ n. refl) (λ n q. q) _ (sym (read_back i p) ∙ ap item_of_line h) p h bad
 no_bad_number i p (bad_count rest (inr (inr (inl h))) bad) =
     count_read (codes "hashed ") rest (map_item hashed) i (λ n. refl) (λ n q. q) _ (sym (read_back i p) ∙ ap item_of_line h) p h bad
-no_bad_number i p (bad_count rest (inr (inr (inr h))) bad) =
+no_bad_number i p (bad_count rest (inr (inr (inr (inr h)))) bad) =
+    count_read (codes "whole ") rest whole_item i (λ n. refl) (λ n q. q) _ (sym (read_back i p) ∙ ap item_of_line h) p h bad
+no_bad_number i p (bad_count rest (inr (inr (inr (inl h)))) bad) =
     count_read (codes "kept ") rest (map_item kept) i (λ n. refl) (λ n q. q) _ (sym (read_back i p) ∙ ap item_of_line h) p h bad
+
+pub no_bad_wholes : (n : ℕ) → 0 < n → n < 2 ^ 64 → HasBadWholes (spelled (wholes_item n)) → ⊥
+no_bad_wholes n some below bad = bad.2 n some below (append_cancel_left (codes "wholes ") _ _ (sym bad.1))

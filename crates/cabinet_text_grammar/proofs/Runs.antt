@@ -3,11 +3,13 @@ use Rattle.std.proofs.Common.{◌≡◌, ◌≢◌, ℕ, ◌+◌, ◌<◌, ◌�
 use Rattle.std.specs.Prelude.{◌==◌}
 use Rattle.std.proofs.lemmas.Bool.Decides.{eqb_tells}
 use Rattle.cabinet_text_grammar.specs.Keys.{MapKind}
-use Rattle.cabinet_text_grammar.specs.Tree.{Tree, leaf, shared, nothing, just, list, map, Trees, no_trees, more_trees, Pairs, no_pairs, more_pairs, count, pair_count}
+use Rattle.cabinet_text_grammar.specs.Tree.{Tree, leaf, shared, nothing, just, list, map, whole, Trees, no_trees, more_trees, Pairs, no_pairs, more_pairs, count, pair_count}
+use Rattle.cabinet_text_grammar.specs.Wholes.{IsNumbered, AreNumbered, ArePairsNumbered}
 use Rattle.cabinet_text_grammar.specs.Item.{Item, some_item, list_item, map_item, key_item, items, items_of, items_of_pairs}
 use Rattle.cabinet_text_grammar.specs.Frame.{Frame, in_option, in_list, at_key, at_value, items_of_stack, AreOpen}
-use Rattle.cabinet_text_grammar.specs.Machine.{State, going, complete, stuck, then_tree, then_pair, plug, settle, settle_pairs, run}
+use Rattle.cabinet_text_grammar.specs.Machine.{State, going, complete, stuck, then_tree, then_pair, plug, plug_whole, settle, settle_pairs, run}
 use Rattle.cabinet_text_grammar.proofs.Items.{count-then, pair_count-then}
+use Rattle.cabinet_text_grammar.proofs.Tables.{numbered_back}
 
 -- some elements after others
 abbrev pub join : Trees → Trees → Trees
@@ -60,105 +62,67 @@ settle-whole ts fs = rw (all (count ts)) refl
 settle_pairs-whole : (kind : MapKind) (ps : Pairs) (fs : List Frame) → settle_pairs kind (pair_count ps) ps fs ≡ plug (map kind ps) fs
 settle_pairs-whole kind ps fs = rw (all (pair_count ps)) refl
 
-mutual
-  -- a tree's items put the tree in
-  pub run-tree : (t : Tree) (fs : List Frame) (rest : List Item) → run (going fs) (items t ++ rest) ≡ run (plug t fs) rest
-  run-tree (leaf l) fs rest = refl
-  run-tree (shared t) fs rest = refl
-  run-tree nothing fs rest = refl
-  run-tree (just t) fs rest = run-tree t (in_option ∷ fs) rest
-  run-tree (list ts) fs rest =
-      run-trees ts no_trees (count ts) fs rest (omega arith) ∙ ap (λ ds. run (settle (count ts) ds fs) rest) (join-none ts) ∙ ap (λ s. run s rest) (settle-whole ts fs)
-  run-tree (map kind ps) fs rest =
-      run-pairs ps no_pairs kind (pair_count ps) fs rest (omega arith)
-      ∙ ap (λ ds. run (settle_pairs kind (pair_count ps) ds fs) rest) (join_pairs-none ps)
-      ∙ ap (λ s. run s rest) (settle_pairs-whole kind ps fs)
+module _ (table : List Tree) where
+  mutual
+    -- a tree's items put the tree in
+    pub run-tree : (t : Tree) (fs : List Frame) (rest : List Item) → IsNumbered table t → run table (going fs) (items table t ++ rest) ≡ run table (plug t fs) rest
+    run-tree (leaf l) fs rest is = refl
+    run-tree (shared t) fs rest is = refl
+    run-tree nothing fs rest is = refl
+    run-tree (just t) fs rest is = run-tree t (in_option ∷ fs) rest is
+    run-tree (whole t) fs rest is = ap (λ found. run table (plug_whole fs found) rest) (numbered_back table t is)
+    run-tree (list ts) fs rest is =
+        run-trees ts no_trees (count ts) fs rest (omega arith) is ∙ ap (λ ds. run table (settle (count ts) ds fs) rest) (join-none ts) ∙ ap (λ s. run table s rest) (settle-whole ts fs)
+    run-tree (map kind ps) fs rest is =
+        run-pairs ps no_pairs kind (pair_count ps) fs rest (omega arith) is
+        ∙ ap (λ ds. run table (settle_pairs kind (pair_count ps) ds fs) rest) (join_pairs-none ps)
+        ∙ ap (λ s. run table s rest) (settle_pairs-whole kind ps fs)
 
-  pub run-trees : (ts ds : Trees) (n : ℕ) (fs : List Frame) (rest : List Item) → count ds + count ts ≤ n → run (settle n ds fs) (items_of ts ++ rest) ≡ run (settle n (join ds ts) fs) rest
-  run-trees no_trees ds n fs rest most = refl
-  run-trees (more_trees t ts) ds n fs rest most =
-      let more : count (then_tree ds t) + count ts ≤ n = omega (arith, most, count-then ds t) in
-      ap (λ s. run s ((items t ++ items_of ts) ++ rest)) (settle-going n ds fs (omega (arith, most)))
-      ∙ ap (run (going (in_list n ds ∷ fs))) (append_assoc (items t) (items_of ts) rest)
-      ∙ run-tree t (in_list n ds ∷ fs) (items_of ts ++ rest)
-      ∙ run-trees ts (then_tree ds t) n fs rest more
+    pub run-trees : (ts ds : Trees) (n : ℕ) (fs : List Frame) (rest : List Item) → count ds + count ts ≤ n → AreNumbered table ts → run table (settle n ds fs) (items_of table ts ++ rest) ≡ run table (settle n (join ds ts) fs) rest
+    run-trees no_trees ds n fs rest most are = refl
+    run-trees (more_trees t ts) ds n fs rest most are =
+        let more : count (then_tree ds t) + count ts ≤ n = omega (arith, most, count-then ds t) in
+        ap (λ s. run table s ((items table t ++ items_of table ts) ++ rest)) (settle-going n ds fs (omega (arith, most)))
+        ∙ ap (run table (going (in_list n ds ∷ fs))) (append_assoc (items table t) (items_of table ts) rest)
+        ∙ run-tree t (in_list n ds ∷ fs) (items_of table ts ++ rest) are.0
+        ∙ run-trees ts (then_tree ds t) n fs rest more are.1
 
-  pub run-pairs : (ps ds : Pairs) (kind : MapKind) (n : ℕ) (fs : List Frame) (rest : List Item) → pair_count ds + pair_count ps ≤ n → run (settle_pairs kind n ds fs) (items_of_pairs ps ++ rest) ≡ run (settle_pairs kind n (join_pairs ds ps) fs) rest
-  run-pairs no_pairs ds kind n fs rest most = refl
-  run-pairs (more_pairs k t ps) ds kind n fs rest most =
-      let more : pair_count (then_pair ds k t) + pair_count ps ≤ n = omega (arith, most, pair_count-then ds k t) in
-      ap (λ s. run s (key_item k ∷ ((items t ++ items_of_pairs ps) ++ rest))) (settle_pairs-going kind n ds fs (omega (arith, most)))
-      ∙ ap (run (going (at_value kind n ds k ∷ fs))) (append_assoc (items t) (items_of_pairs ps) rest)
-      ∙ run-tree t (at_value kind n ds k ∷ fs) (items_of_pairs ps ++ rest)
-      ∙ run-pairs ps (then_pair ds k t) kind n fs rest more
+    pub run-pairs : (ps ds : Pairs) (kind : MapKind) (n : ℕ) (fs : List Frame) (rest : List Item) → pair_count ds + pair_count ps ≤ n → ArePairsNumbered table ps → run table (settle_pairs kind n ds fs) (items_of_pairs table ps ++ rest) ≡ run table (settle_pairs kind n (join_pairs ds ps) fs) rest
+    run-pairs no_pairs ds kind n fs rest most are = refl
+    run-pairs (more_pairs k t ps) ds kind n fs rest most are =
+        let more : pair_count (then_pair ds k t) + pair_count ps ≤ n = omega (arith, most, pair_count-then ds k t) in
+        ap (λ s. run table s (key_item k ∷ ((items table t ++ items_of_pairs table ps) ++ rest))) (settle_pairs-going kind n ds fs (omega (arith, most)))
+        ∙ ap (run table (going (at_value kind n ds k ∷ fs))) (append_assoc (items table t) (items_of_pairs table ps) rest)
+        ∙ run-tree t (at_value kind n ds k ∷ fs) (items_of_pairs table ps ++ rest) are.0
+        ∙ run-pairs ps (then_pair ds k t) kind n fs rest more are.1
 
--- the items of open containers open them
-pub run-stack : (fs : List Frame) (rest : List Item) → AreOpen fs → run (going []) (items_of_stack fs ++ rest) ≡ run (going fs) rest
-run-stack [] rest are = refl
-run-stack (in_option ∷ outer) rest are =
-    ap (run (going [])) (append_assoc (items_of_stack outer) (some_item ∷ []) rest) ∙ run-stack outer (some_item ∷ rest) are.2
-run-stack (in_list n ts ∷ outer) rest are =
-    ap (run (going [])) (append_assoc (items_of_stack outer) (list_item n ∷ items_of ts) rest)
-    ∙ run-stack outer (list_item n ∷ (items_of ts ++ rest)) are.2
-    ∙ run-trees ts no_trees n outer rest (omega (arith, are.0.1))
-    ∙ ap (λ ds. run (settle n ds outer) rest) (join-none ts)
-    ∙ ap (λ s. run s rest) (settle-going n ts outer are.0.1)
-run-stack (at_key kind n ps ∷ outer) rest are =
-    ap (run (going [])) (append_assoc (items_of_stack outer) (map_item kind n ∷ items_of_pairs ps) rest)
-    ∙ run-stack outer (map_item kind n ∷ (items_of_pairs ps ++ rest)) are.2
-    ∙ run-pairs ps no_pairs kind n outer rest (omega (arith, are.0.1))
-    ∙ ap (λ ds. run (settle_pairs kind n ds outer) rest) (join_pairs-none ps)
-    ∙ ap (λ s. run s rest) (settle_pairs-going kind n ps outer are.0.1)
-run-stack (at_value kind n ps k ∷ outer) rest are =
-    ap (run (going [])) (append_assoc (items_of_stack outer) (map_item kind n ∷ (items_of_pairs ps ++ key_item k ∷ [])) rest)
-    ∙ ap (λ w. run (going []) (items_of_stack outer ++ map_item kind n ∷ w)) (append_assoc (items_of_pairs ps) (key_item k ∷ []) rest)
-    ∙ run-stack outer (map_item kind n ∷ (items_of_pairs ps ++ key_item k ∷ rest)) are.2
-    ∙ run-pairs ps no_pairs kind n outer (key_item k ∷ rest) (omega (arith, are.0.0.1))
-    ∙ ap (λ ds. run (settle_pairs kind n ds outer) (key_item k ∷ rest)) (join_pairs-none ps)
-    ∙ ap (λ s. run s (key_item k ∷ rest)) (settle_pairs-going kind n ps outer are.0.0.1)
+  -- the items of open containers open them
+  pub run-stack : (around : ℕ) (fs : List Frame) (rest : List Item) → AreOpen table around fs → run table (going []) (items_of_stack table fs ++ rest) ≡ run table (going fs) rest
+  run-stack around [] rest are = refl
+  run-stack around (in_option ∷ outer) rest are =
+      ap (run table (going [])) (append_assoc (items_of_stack table outer) (some_item ∷ []) rest) ∙ run-stack around outer (some_item ∷ rest) are.2
+  run-stack around (in_list n ts ∷ outer) rest are =
+      ap (run table (going [])) (append_assoc (items_of_stack table outer) (list_item n ∷ items_of table ts) rest)
+      ∙ run-stack around outer (list_item n ∷ (items_of table ts ++ rest)) are.2
+      ∙ run-trees ts no_trees n outer rest (omega (arith, are.0.1)) are.0.4
+      ∙ ap (λ ds. run table (settle n ds outer) rest) (join-none ts)
+      ∙ ap (λ s. run table s rest) (settle-going n ts outer are.0.1)
+  run-stack around (at_key kind n ps ∷ outer) rest are =
+      ap (run table (going [])) (append_assoc (items_of_stack table outer) (map_item kind n ∷ items_of_pairs table ps) rest)
+      ∙ run-stack around outer (map_item kind n ∷ (items_of_pairs table ps ++ rest)) are.2
+      ∙ run-pairs ps no_pairs kind n outer rest (omega (arith, are.0.1)) are.0.4
+      ∙ ap (λ ds. run table (settle_pairs kind n ds outer) rest) (join_pairs-none ps)
+      ∙ ap (λ s. run table s rest) (settle_pairs-going kind n ps outer are.0.1)
+  run-stack around (at_value kind n ps k ∷ outer) rest are =
+      ap (run table (going [])) (append_assoc (items_of_stack table outer) (map_item kind n ∷ (items_of_pairs table ps ++ key_item k ∷ [])) rest)
+      ∙ ap (λ w. run table (going []) (items_of_stack table outer ++ map_item kind n ∷ w)) (append_assoc (items_of_pairs table ps) (key_item k ∷ []) rest)
+      ∙ run-stack around outer (map_item kind n ∷ (items_of_pairs table ps ++ key_item k ∷ rest)) are.2
+      ∙ run-pairs ps no_pairs kind n outer (key_item k ∷ rest) (omega (arith, are.0.0.1)) are.0.0.4
+      ∙ ap (λ ds. run table (settle_pairs kind n ds outer) (key_item k ∷ rest)) (join_pairs-none ps)
+      ∙ ap (λ s. run table s (key_item k ∷ rest)) (settle_pairs-going kind n ps outer are.0.0.1)
 
-whole_run : (t : Tree) → run (going []) (items t) ≡ complete t
-whole_run t = ap (run (going [])) (sym (append-nil (items t))) ∙ run-tree t [] []
+  pub run_all : (t : Tree) (fs : List Frame) → IsNumbered table t → run table (going fs) (items table t) ≡ plug t fs
+  run_all t fs is = ap (run table (going fs)) (sym (append-nil (items table t))) ∙ run-tree t fs [] is
 
-stack_run : (fs : List Frame) → AreOpen fs → run (going []) (items_of_stack fs) ≡ going fs
-stack_run fs are = ap (run (going [])) (sym (append-nil (items_of_stack fs))) ∙ run-stack fs [] are
-
-abbrev tree_of : State → Tree
-tree_of (complete t) = t
-tree_of (going fs) = nothing
-tree_of stuck = nothing
-
-abbrev frames_of : State → List Frame
-frames_of (going fs) = fs
-frames_of (complete t) = []
-frames_of stuck = []
-
--- trees, and stacks of open containers, differ in their items
-pub same_tree : (s t : Tree) → items s ≡ items t → s ≡ t
-same_tree s t h = ap tree_of (sym (whole_run s) ∙ ap (run (going [])) h ∙ whole_run t)
-
-pub same_stack : (fs gs : List Frame) → AreOpen fs → AreOpen gs → items_of_stack fs ≡ items_of_stack gs → fs ≡ gs
-same_stack fs gs p q h = ap frames_of (sym (stack_run fs p) ∙ ap (run (going [])) h ∙ stack_run gs q)
-
-pub stack_or_tree : (fs : List Frame) (t : Tree) → AreOpen fs → items_of_stack fs ≢ items t
-stack_or_tree fs t p h =
-    let same : going fs ≡ complete t = sym (stack_run fs p) ∙ ap (run (going [])) h ∙ whole_run t in
-    cc
-
--- what the items after those of a stack lead to
-pub goes_on : (fs gs : List Frame) (more : List Item) → AreOpen fs → AreOpen gs → items_of_stack gs ≡ items_of_stack fs ++ more → run (going fs) more ≡ going gs
-goes_on fs gs more p q h = sym (run-stack fs more p) ∙ ap (run (going [])) (sym h) ∙ stack_run gs q
-
-pub ends_on : (fs : List Frame) (t : Tree) (more : List Item) → AreOpen fs → items t ≡ items_of_stack fs ++ more → run (going fs) more ≡ complete t
-ends_on fs t more p h = sym (run-stack fs more p) ∙ ap (run (going [])) (sym h) ∙ whole_run t
-
--- no item follows where a document has ended
-pub no_more : (t : Tree) (gs : List Frame) (i : Item) (more : List Item) → AreOpen gs → items_of_stack gs ≢ items t ++ i ∷ more
-no_more t gs i more q h =
-    let same : stuck ≡ going gs = sym (run-tree t [] (i ∷ more)) ∙ ap (run (going [])) (sym h) ∙ stack_run gs q in
-    cc
-
-pub no_more_tree : (t s : Tree) (i : Item) (more : List Item) → items s ≢ items t ++ i ∷ more
-no_more_tree t s i more h =
-    let same : stuck ≡ complete s = sym (run-tree t [] (i ∷ more)) ∙ ap (run (going [])) (sym h) ∙ whole_run s in
-    cc
+  pub stack_run : (around : ℕ) (fs : List Frame) → AreOpen table around fs → run table (going []) (items_of_stack table fs) ≡ going fs
+  stack_run around fs are = ap (run table (going [])) (sym (append-nil (items_of_stack table fs))) ∙ run-stack around fs [] are

@@ -6,10 +6,10 @@ use Rattle.std.specs.Fmt.{decimal}
 use Rattle.std.specs.Ordering.{is_lt, is_ge, nat_cmp}
 use Rattle.std.specs.Cmp.Lexicographic.{slice_cmp}
 use Rattle.cabinet_text_grammar.specs.Keys.{ordered, kept}
-use Rattle.cabinet_text_grammar.specs.Tree.{Leaf, truth, number, text, Tree, leaf, shared, nothing, just, list, map, Trees, no_trees, more_trees, Pairs, no_pairs, more_pairs, count, pair_count}
-use Rattle.cabinet_text_grammar.specs.Item.{Item, leaf_item, shared_item, none_item, some_item, list_item, map_item, key_item}
+use Rattle.cabinet_text_grammar.specs.Tree.{Leaf, truth, number, text, Tree, leaf, shared, nothing, just, list, map, whole, Trees, no_trees, more_trees, Pairs, no_pairs, more_pairs, count, pair_count}
+use Rattle.cabinet_text_grammar.specs.Item.{Item, leaf_item, shared_item, none_item, some_item, list_item, map_item, key_item, whole_head}
 use Rattle.cabinet_text_grammar.specs.Spelling.{spelled}
-use Rattle.cabinet_text_grammar.specs.Path.{Step, key, place, inside, node_at}
+use Rattle.cabinet_text_grammar.specs.Path.{Step, key, place, inside, node_at, enters}
 use Rattle.cabinet_text_grammar.specs.Line.{Line, get, keys, range, set}
 
 pub data Answer : Type 0 where
@@ -31,6 +31,7 @@ head_of nothing = none_item
 head_of (just t) = some_item
 head_of (list ts) = list_item (count ts)
 head_of (map kind ps) = map_item kind (pair_count ps)
+head_of (whole t) = whole_head
 
 abbrev pub keys_in : Pairs → List (List ℕ)
 keys_in no_pairs = []
@@ -60,6 +61,10 @@ abbrev pub outcome_there : Leaf → Tree → Answer
 outcome_there new (leaf old) = if fits old new then done else refused
 outcome_there new _ = refused
 
+-- what lies in a whole stays as it is
+abbrev pub outcome_at : Tree → List Step → Leaf → Tree → Answer
+outcome_at t path new u = if enters t path then refused else outcome_there new u
+
 abbrev pub if_there : Option Tree → (Tree → Answer) → Answer
 if_there None answer = missing
 if_there (Some t) answer = answer t
@@ -68,14 +73,14 @@ abbrev pub answer : Tree → Line → Answer
 answer t (get path) = if_there (node_at t path) (λ u. head (head_of u))
 answer t (keys path) = if_there (node_at t path) keys_of
 answer t (range low high path) = if_there (node_at t path) (keys_within low high)
-answer t (set path new) = if_there (node_at t path) (outcome_there new)
+answer t (set path new) = if_there (node_at t path) (outcome_at t path new)
 
 -- the answer to the line that bytes spell, or to bytes that spell none
 abbrev pub reply : Tree → Option Line → Answer
 reply t None = bad
 reply t (Some line) = answer t line
 
--- the document in which a leaf was put at a path, if the path leads to a leaf that it fits
+-- the document in which a leaf was put at a path, if the path leads to a leaf that it fits and into no whole
 abbrev mutual
   pub change : Tree → List Step → Leaf → Tree
   change (leaf old) [] new = if fits old new then leaf new else leaf old

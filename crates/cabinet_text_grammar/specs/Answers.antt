@@ -5,7 +5,7 @@ use Rattle.cabinet_text_grammar.specs.Spelling.{text_of}
 use Rattle.cabinet_text_grammar.specs.Path.{key, place, inside}
 use Rattle.cabinet_text_grammar.specs.Line.{Line, get, keys, range, set, spelling}
 use Rattle.cabinet_text_grammar.specs.Answering.{answer, after, spelled_answer}
-use Rattle.cabinet_text_grammar.specs.Documents.{map_of_four, kept_map, list_of_eight}
+use Rattle.cabinet_text_grammar.specs.Documents.{map_of_four, kept_map, list_of_eight, whole_twice}
 
 -- a line with this spelling is answered by this line
 pub record Answers (t : Tree) (line : Line) (bytes : List ℕ) (reply : List ℕ) : Type 0 where
@@ -69,3 +69,12 @@ pub record Edits : Type 0 where
 abbrev pub EditedText : Type 0
 EditedText =
     text_of (after kept_map (set (key (codes "a") ∷ []) (text (codes "cat")))) ≡ codes "kept 2\n'b\nint 1\n'a\ntext 'cat\n"
+
+-- a question may lead into a whole, an edit is refused there if the node is there
+pub record AnswersInWholes : Type 0 where
+  pub of_a_whole : Answers whole_twice (get (place 0 ∷ [])) (codes "get #0") (codes "whole\n")
+  pub into_a_whole : Answers whole_twice (get (place 1 ∷ inside ∷ [])) (codes "get #1 ?") (codes "int 5\n")
+  pub edit_in_a_whole : Answers whole_twice (set (place 0 ∷ inside ∷ []) (number (pos 6))) (codes "set int 6 #0 ?") (codes "refused\n")
+  pub edit_of_a_whole : Answers whole_twice (set (place 0 ∷ []) (number (pos 6))) (codes "set int 6 #0") (codes "refused\n")
+  pub by_a_key : Answers whole_twice (get (place 0 ∷ key (codes "a") ∷ [])) (codes "get #0 'a") (codes "missing\n")
+  pub edit_past_the_end : Answers whole_twice (set (place 0 ∷ inside ∷ inside ∷ []) (number (pos 6))) (codes "set int 6 #0 ? ?") (codes "missing\n")

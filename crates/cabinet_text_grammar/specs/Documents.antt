@@ -1,7 +1,7 @@
 -- Worked documents.
 use Rattle.std.specs.Prelude.{ℕ, pos, true, codes}
 use Rattle.cabinet_text_grammar.specs.Keys.{ordered, hashed, kept}
-use Rattle.cabinet_text_grammar.specs.Tree.{truth, number, text, Tree, leaf, shared, nothing, just, list, map, no_trees, more_trees, Pairs, no_pairs, more_pairs}
+use Rattle.cabinet_text_grammar.specs.Tree.{truth, number, text, Tree, leaf, shared, nothing, just, list, map, whole, no_trees, more_trees, Pairs, no_pairs, more_pairs}
 
 abbrev pub numeral : ℕ → Tree
 numeral n = leaf (number (pos n))
@@ -35,3 +35,7 @@ list_of_eight =
     (more_trees (just (numeral 5))
     (more_trees (map hashed (more_pairs (codes "a") (numeral 1) no_pairs))
     (more_trees kept_map no_trees))))))))
+
+-- a number that is a whole at two places
+abbrev pub whole_twice : Tree
+whole_twice = list (more_trees (whole (numeral 5)) (more_trees (whole (numeral 5)) no_trees))

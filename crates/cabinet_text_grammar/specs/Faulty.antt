@@ -1,7 +1,7 @@
 -- Worked texts that are the text of no document, each with its first faulty line and the first cause.
 use Rattle.std.specs.Prelude.{ℕ, zero, suc, List, [], ◌++◌, codes}
 use Rattle.cabinet_text_grammar.specs.Fault.{FirstFault}
-use Rattle.cabinet_text_grammar.specs.declared.cause.Cause.TheVariants.{NoNewline, EndTooEarly, KeyExpected, BadEscape, KeyOrder, KeyRepeated, UnknownHead, BadNumber, TooDeep, LineAfterEnd}
+use Rattle.cabinet_text_grammar.specs.declared.cause.Cause.TheVariants.{NoNewline, EndTooEarly, KeyExpected, BadEscape, KeyOrder, KeyRepeated, UnknownHead, BadNumber, UnknownWhole, TooDeep, RepeatedWhole, WholeOrder, LineAfterEnd}
 
 abbrev pub HashedKeysThatDescend : Type 0
 HashedKeysThatDescend = FirstFault (codes "hashed 2\n'b\nint 1\n'a\nint 2\n") 4 KeyOrder
@@ -52,3 +52,27 @@ some_lines (suc n) = codes "some\n" ++ some_lines n
 
 abbrev pub SixtyFiveOptions : Type 0
 SixtyFiveOptions = FirstFault (some_lines 64 ++ codes "none\n") 65 TooDeep
+
+-- the number of a whole where there are none
+abbrev pub WholeWithoutWholes : Type 0
+WholeWithoutWholes = FirstFault (codes "whole 0\n") 1 UnknownWhole
+
+-- a whole that names itself
+abbrev pub WholeInItself : Type 0
+WholeInItself = FirstFault (codes "wholes 1\nwhole 0\nwhole 0\n") 2 UnknownWhole
+
+abbrev pub WholesOnALaterLine : Type 0
+WholesOnALaterLine = FirstFault (codes "list 1\nwholes 1\n") 2 UnknownHead
+
+abbrev pub NoWholes : Type 0
+NoWholes = FirstFault (codes "wholes 0\n") 1 BadNumber
+
+abbrev pub EqualWholes : Type 0
+EqualWholes = FirstFault (codes "wholes 2\nint 5\nint 5\nlist 2\nwhole 0\nwhole 1\n") 3 RepeatedWhole
+
+abbrev pub UnusedWhole : Type 0
+UnusedWhole = FirstFault (codes "wholes 1\nint 5\nint 6\n") 3 WholeOrder
+
+-- wholes in another order than that of their numbers
+abbrev pub WholesOutOfOrder : Type 0
+WholesOutOfOrder = FirstFault (codes "wholes 2\nint 1\nint 2\nlist 2\nwhole 1\nwhole 0\n") 6 WholeOrder

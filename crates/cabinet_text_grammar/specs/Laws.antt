@@ -1,6 +1,7 @@
 -- Laws of documents, texts and lines, as statements.
 use Rattle.std.specs.Prelude.{◌≡◌, ◌≢◌, ℕ, List, Option}
-use Rattle.cabinet_text_grammar.specs.Tree.{Tree, IsDocument, Leaf, IsLeaf}
+use Rattle.cabinet_text_grammar.specs.Tree.{Tree, Leaf, IsLeaf}
+use Rattle.cabinet_text_grammar.specs.Wholes.{IsDocument}
 use Rattle.cabinet_text_grammar.specs.Spelling.{text_of}
 use Rattle.cabinet_text_grammar.specs.Path.{Step}
 use Rattle.cabinet_text_grammar.specs.Line.{Line, set, Says}

@@ -1,5 +1,6 @@
 pub mod Answering
 pub mod Answers
+pub mod Completing
 pub mod Documents
 pub mod Due
 pub mod Fault
@@ -12,9 +13,11 @@ pub mod Line
 pub mod Machine
 pub mod Memory
 pub mod Path
+pub mod Reading
 pub mod Spelling
 pub mod Steps
 pub mod TextKey
 pub mod Texts
 pub mod TextsLaws
 pub mod Tree
+pub mod Wholes

@@ -3,7 +3,7 @@ use Rattle.std.specs.Prelude.{ℕ, ◌==◌, Bool, true, false, if◌then◌else
 use Rattle.std.specs.Fmt.{decimal, signed_decimal}
 use Rattle.cabinet_text_grammar.specs.Keys.{MapKind, ordered, hashed, kept}
 use Rattle.cabinet_text_grammar.specs.Tree.{Leaf, truth, number, text, Tree}
-use Rattle.cabinet_text_grammar.specs.Item.{Item, leaf_item, shared_item, none_item, some_item, list_item, map_item, key_item, items}
+use Rattle.cabinet_text_grammar.specs.Item.{Item, leaf_item, shared_item, none_item, some_item, list_item, map_item, key_item, whole_item, wholes_item, whole_head, document_items}
 
 -- a backslash as \\, a newline as \n, a space as \s, every other byte as itself
 abbrev pub escaped_byte : ℕ → List ℕ
@@ -42,6 +42,9 @@ spelled some_item = codes "some"
 spelled (list_item n) = list_head n
 spelled (map_item kind n) = map_head kind n
 spelled (key_item k) = codes "'" ++ escaped k
+spelled (whole_item n) = codes "whole " ++ decimal n
+spelled (wholes_item n) = codes "wholes " ++ decimal n
+spelled whole_head = codes "whole"
 
 abbrev pub lines_of : List Item → List (List ℕ)
 lines_of is = map spelled is
@@ -53,4 +56,4 @@ ended (line ∷ lines) = line ++ 10 ∷ ended lines
 
 -- the text of a document
 abbrev pub text_of : Tree → List ℕ
-text_of t = ended (lines_of (items t))
+text_of t = ended (lines_of (document_items t))

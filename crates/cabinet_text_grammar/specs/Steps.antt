@@ -1,14 +1,15 @@
--- The item that a line represents when it is taken in, and the state that it leads to.
+-- The item that a line represents when it is taken in, and what it leads to.
 use Rattle.std.specs.Prelude.{◌≡◌, ℕ, List}
 use Rattle.cabinet_text_grammar.specs.Item.{Item}
-use Rattle.cabinet_text_grammar.specs.Frame.{Frame}
-use Rattle.cabinet_text_grammar.specs.Due.{due_in, Admits}
+use Rattle.cabinet_text_grammar.specs.Due.{Admits}
+use Rattle.cabinet_text_grammar.specs.Reading.{Reading, due_at, Stage, take, Suits}
+use Rattle.cabinet_text_grammar.specs.Machine.{step}
 use Rattle.cabinet_text_grammar.specs.Spelling.{spelled}
-use Rattle.cabinet_text_grammar.specs.Machine.{State, step}
 
--- a line of an item that is allowed inside some containers leads to this state
-pub record TakesLine (fs : List Frame) (line : List ℕ) (state : State) : Type 0 where
+-- a line of an item that is allowed after some lines leads to this stage
+pub record TakesLine (r : Reading) (line : List ℕ) (stage : Stage) : Type 0 where
   pub item : Item
-  pub admitted : Admits (due_in fs) item
+  pub admitted : Admits (due_at r) item
   pub line_is : line ≡ spelled item
-  pub state_is : state ≡ step fs item
+  pub suits : Suits r (step r.table r.stack item)
+  pub stage_is : stage ≡ take r item

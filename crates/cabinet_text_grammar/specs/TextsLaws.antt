@@ -1,6 +1,7 @@
 -- How texts and documents correspond, as statements.
 use Rattle.std.specs.Prelude.{◌≡◌, ◌≢◌, ◌⊎◌, ℕ, List}
-use Rattle.cabinet_text_grammar.specs.Tree.{Tree, IsDocument}
+use Rattle.cabinet_text_grammar.specs.Tree.{Tree}
+use Rattle.cabinet_text_grammar.specs.Wholes.{IsDocument}
 use Rattle.cabinet_text_grammar.specs.Spelling.{text_of}
 use Rattle.cabinet_text_grammar.specs.Memory.{TextTakesMemory}
 use Rattle.cabinet_text_grammar.specs.Fault.{FirstFault}

@@ -1,5 +1,5 @@
--- Documents: trees of nine kinds of nodes.
-use Rattle.std.specs.Prelude.{ℕ, suc, ◌<◌, ◌≤◌, ◌^◌, max, ℤ, Bool, List, [], ◌∷◌, IsUtf8, FitsSigned}
+-- Trees of ten kinds of nodes.
+use Rattle.std.specs.Prelude.{ℕ, suc, ◌<◌, ◌^◌, max, ℤ, Bool, List, [], ◌∷◌, IsUtf8, FitsSigned}
 use Rattle.std.specs.Int.{w64}
 use Rattle.cabinet_text_grammar.specs.Keys.{MapKind, MayFollow}
 
@@ -19,6 +19,8 @@ mutual
     just : Tree → Tree
     list : Trees → Tree
     map : MapKind → Pairs → Tree
+    -- a whole, and the tree inside it
+    whole : Tree → Tree
 
   -- the elements of a list
   pub data Trees : Type 0 where
@@ -38,7 +40,7 @@ abbrev pub pair_count : Pairs → ℕ
 pair_count no_pairs = 0
 pair_count (more_pairs k t ps) = suc (pair_count ps)
 
--- the largest number of containers that lie in one another; options, lists and maps are containers
+-- the largest number of containers that lie in one another; options, lists, maps and wholes are containers
 abbrev mutual
   pub depth : Tree → ℕ
   depth (leaf l) = 0
@@ -47,6 +49,7 @@ abbrev mutual
   depth (just t) = suc (depth t)
   depth (list ts) = suc (most_depth ts)
   depth (map kind ps) = suc (pairs_depth ps)
+  depth (whole t) = suc (depth t)
 
   pub most_depth : Trees → ℕ
   most_depth no_trees = 0
@@ -71,6 +74,7 @@ abbrev mutual
   IsLegal (just t) = IsLegal t
   IsLegal (list ts) = AreLegal ts × (count ts < 2 ^ 64)
   IsLegal (map kind ps) = ArePairs kind [] ps × (pair_count ps < 2 ^ 64)
+  IsLegal (whole t) = IsLegal t
 
   pub AreLegal : Trees → Type 0
   AreLegal no_trees = Unit {0}
@@ -80,7 +84,3 @@ abbrev mutual
   pub ArePairs : MapKind → List (List ℕ) → Pairs → Type 0
   ArePairs kind keys no_pairs = Unit {0}
   ArePairs kind keys (more_pairs k t ps) = (IsUtf8 k × MayFollow kind keys k) × (IsLegal t × ArePairs kind (k ∷ keys) ps)
-
--- at most 64 containers lie in one another
-abbrev pub IsDocument : Tree → Type 0
-IsDocument t = IsLegal t × (depth t ≤ 64)

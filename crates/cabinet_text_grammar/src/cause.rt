@@ -30,9 +30,20 @@ pub enum Cause {
     /// The argument of `int` or of a count is no number of 64 bits, or not written in its shortest form.
     #[error("BadNumber")]
     BadNumber,
-    /// The line is the head of a container inside 64 containers.
+    /// The number of a whole is that of none that is complete.
+    #[error("UnknownWhole")]
+    UnknownWhole,
+    /// The line is the head of a container, or of a whole with containers in it, by which more than 64 containers lie in
+    /// one another.
     #[error("TooDeep")]
     TooDeep,
+    /// The line completes a whole that is equal to an earlier one.
+    #[error("RepeatedWhole")]
+    RepeatedWhole,
+    /// The line completes the document, in which a whole is not used or has not its number: wholes are numbered in the
+    /// order in which a walk from the root first completes them.
+    #[error("WholeOrder")]
+    WholeOrder,
     /// The line is after the end of a complete document.
     #[error("LineAfterEnd")]
     LineAfterEnd,

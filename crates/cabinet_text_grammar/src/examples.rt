@@ -1,9 +1,9 @@
 //! Worked documents, texts and lines: each function below has no body and states in its contract what the definitions
 //! result in.
 
-ghost use Rattle.cabinet_text_grammar.specs.Texts.{MapOfFour, ListOfEight};
-ghost use Rattle.cabinet_text_grammar.specs.Answers.{RangeInTheMiddle, RangeBetweenKeys, EmptyRange, ReversedRange, KeysOfTheKinds, HeadsOfTheKinds, MissingNodes, Edits, EditedText};
-ghost use Rattle.cabinet_text_grammar.specs.Faulty.{HashedKeysThatDescend, OrderedKeyTwice, KeptKeyTwice, SomeWithAnArgument, KeyInPlaceOfAHead, HeadInPlaceOfAKey, CountWithALeadingZero, KeyWithARawSpace, OptionWithoutItsNode, MapWithoutItsSecondPair, ListWithoutItsSecondElement, LineAfterADocument, LastLineWithoutANewline, SixtyFiveOptions};
+ghost use Rattle.cabinet_text_grammar.specs.Texts.{MapOfFour, ListOfEight, WholeTwice};
+ghost use Rattle.cabinet_text_grammar.specs.Answers.{RangeInTheMiddle, RangeBetweenKeys, EmptyRange, ReversedRange, KeysOfTheKinds, HeadsOfTheKinds, MissingNodes, Edits, EditedText, AnswersInWholes};
+ghost use Rattle.cabinet_text_grammar.specs.Faulty.{HashedKeysThatDescend, OrderedKeyTwice, KeptKeyTwice, SomeWithAnArgument, KeyInPlaceOfAHead, HeadInPlaceOfAKey, CountWithALeadingZero, KeyWithARawSpace, OptionWithoutItsNode, MapWithoutItsSecondPair, ListWithoutItsSecondElement, LineAfterADocument, LastLineWithoutANewline, SixtyFiveOptions, WholeWithoutWholes, WholeInItself, WholesOnALaterLine, NoWholes, EqualWholes, UnusedWhole, WholesOutOfOrder};
 
 /// States the text of an ordered map of four numbers.
 pub fn map_of_four()
@@ -128,4 +128,49 @@ pub fn last_line_without_a_newline()
 /// States the fault of an option inside 64 options.
 pub fn sixty_five_options()
     ensures { SixtyFiveOptions }
+{}
+
+/// States the text of a list that has one whole twice.
+pub fn whole_twice()
+    ensures { WholeTwice }
+{}
+
+/// States the answers to questions and edits that lead to wholes and into them.
+pub fn answers_in_wholes()
+    ensures { AnswersInWholes }
+{}
+
+/// States the first fault of the number of a whole in a text without wholes.
+pub fn whole_without_wholes()
+    ensures { WholeWithoutWholes }
+{}
+
+/// States the first fault of a whole that names itself.
+pub fn whole_in_itself()
+    ensures { WholeInItself }
+{}
+
+/// States the first fault of a number of wholes on another line than the first.
+pub fn wholes_on_a_later_line()
+    ensures { WholesOnALaterLine }
+{}
+
+/// States the first fault of the number 0 of wholes.
+pub fn no_wholes()
+    ensures { NoWholes }
+{}
+
+/// States the first fault of two wholes that are equal.
+pub fn equal_wholes()
+    ensures { EqualWholes }
+{}
+
+/// States the first fault of a whole that no place uses.
+pub fn unused_whole()
+    ensures { UnusedWhole }
+{}
+
+/// States the first fault of wholes that are used in another order than that of their numbers.
+pub fn wholes_out_of_order()
+    ensures { WholesOutOfOrder }
 {}

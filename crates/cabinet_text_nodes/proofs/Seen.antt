@@ -22,12 +22,12 @@ swap true false d = refl
 swap false true d = refl
 swap false false d = refl
 
--- what a test finds among slices after one is inserted
-pub found_after : (f : List ℕ → Bool) (ks : List (Bor (List ℕ))) (a : Bor (List ℕ)) → list_any (λ k. f k.now) (insert_key slices_cmp ks a) ≡ (f a.now || list_any (λ k. f k.now) ks)
-found_after f [] a = refl
-found_after f (k ∷ ks) a = by_order (slices_cmp a k) refl (found_after f ks a) where
-  by_order : (o : Ordering) → slices_cmp a k ≡ o → list_any (λ k. f k.now) (insert_key slices_cmp ks a) ≡ (f a.now || list_any (λ k. f k.now) ks)
-      → list_any (λ k. f k.now) (insert_key slices_cmp (k ∷ ks) a) ≡ (f a.now || list_any (λ k. f k.now) (k ∷ ks))
+-- what a test finds among keys, which are ordered by their bytes, after one is inserted
+pub found_after : {K : Type 0} (now : K → List ℕ) (f : List ℕ → Bool) (ks : List K) (a : K) → list_any (λ k. f (now k)) (insert_key (λ x y. slice_cmp nat_cmp (now x) (now y)) ks a) ≡ (f (now a) || list_any (λ k. f (now k)) ks)
+found_after now f [] a = refl
+found_after {K} now f (k ∷ ks) a = by_order (slice_cmp nat_cmp (now a) (now k)) refl (found_after now f ks a) where
+  by_order : (o : Ordering) → slice_cmp nat_cmp (now a) (now k) ≡ o → list_any (λ l. f (now l)) (insert_key (λ x y. slice_cmp nat_cmp (now x) (now y)) ks a) ≡ (f (now a) || list_any (λ l. f (now l)) ks)
+      → list_any (λ l. f (now l)) (insert_key (λ x y. slice_cmp nat_cmp (now x) (now y)) (k ∷ ks) a) ≡ (f (now a) || list_any (λ l. f (now l)) (k ∷ ks))
   by_order Less is behind = rw is refl
-  by_order Equal is behind = rw (is, exact_bytes a.now k.now is) (once (f k.now) (list_any (λ k. f k.now) ks))
-  by_order Greater is behind = rw (is, behind) (swap (f k.now) (f a.now) (list_any (λ k. f k.now) ks))
+  by_order Equal is behind = rw (is, exact_bytes (now a) (now k) is) (once (f (now k)) (list_any (λ l. f (now l)) ks))
+  by_order Greater is behind = rw (is, behind) (swap (f (now k)) (f (now a)) (list_any (λ l. f (now l)) ks))

@@ -88,13 +88,13 @@ pub not_twice : (ps : Pairs) → again none_before ps ≡ false → HasKeyTwice 
 not_twice ps h twice = true≢false (sym (again_twice none_before ps twice) ∙ h)
 
 -- the pairs from one of them on
-pub pairs_from : (ps : List (String Global × Node)) (i : ℕ) (p : String Global × Node) → i < length ps → p ≡ get_or ps i p → node_pairs (drop i ps) ≡ more_pairs (string_bytes p.0) (node_tree p.1) (node_pairs (drop (i + 1) ps))
+pub pairs_from : (ps : List (String Global × Node)) (i : ℕ) (p : String Global × Node) → i < length ps → p ≡ get_or ps i p → node_pairs [] (drop i ps) ≡ more_pairs (string_bytes p.0) (node_tree [] p.1) (node_pairs [] (drop (i + 1) ps))
 pairs_from ps i p within is =
-    ap node_pairs (drop-cons ps i p within)
-    ∙ ap (λ q. more_pairs (string_bytes q.0) (node_tree q.1) (node_pairs (drop (suc i) ps))) (sym is)
-    ∙ ap (λ j. more_pairs (string_bytes p.0) (node_tree p.1) (node_pairs (drop j ps))) (sym (add-one i))
+    ap (node_pairs []) (drop-cons ps i p within)
+    ∙ ap (λ q. more_pairs (string_bytes q.0) (node_tree [] q.1) (node_pairs [] (drop (suc i) ps))) (sym is)
+    ∙ ap (λ j. more_pairs (string_bytes p.0) (node_tree [] p.1) (node_pairs [] (drop j ps))) (sym (add-one i))
 
-pub twice_further_in : (ps : List (String Global × Node)) (i : ℕ) → HasKeyTwice (node_pairs (drop i ps)) → HasKeyTwice (node_pairs ps)
+pub twice_further_in : (ps : List (String Global × Node)) (i : ℕ) → HasKeyTwice (node_pairs [] (drop i ps)) → HasKeyTwice (node_pairs [] ps)
 twice_further_in ps zero h = h
 twice_further_in [] (suc i) h = h
 twice_further_in (p ∷ ps) (suc i) h = inr (twice_further_in ps i h)
@@ -113,30 +113,30 @@ not_true a false h g = refl
 
 -- a key that is not added to the set occurs twice
 pub seen_twice : (s : BTreeSet (Bor (List ℕ))) (key : Bor (List ℕ)) (ps : List (String Global × Node)) (i : ℕ) (p : String Global × Node) (added : Bool) → i < length ps → p ≡ get_or ps i p → key.now ≡ string_bytes p.0
-    → added ≡ not (contains slices_cmp s key) → added ≡ false → again (seen s) (node_pairs (drop i ps)) ≡ again none_before (node_pairs ps) → HasKeyTwice (node_pairs ps)
+    → added ≡ not (contains slices_cmp s key) → added ≡ false → again (seen s) (node_pairs [] (drop i ps)) ≡ again none_before (node_pairs [] ps) → HasKeyTwice (node_pairs [] ps)
 seen_twice s key ps i p added within is named told not_added same =
     let there : seen s (string_bytes p.0) ≡ true = ap (seen s) (sym named) ∙ not_false added (contains slices_cmp s key) told not_added in
-    let rest = node_pairs (drop (i + 1) ps) in
-    let here : again (seen s) (more_pairs (string_bytes p.0) (node_tree p.1) rest) ≡ true = rw there refl in
-    twice_if_again (node_pairs ps) (sym same ∙ ap (again (seen s)) (pairs_from ps i p within is) ∙ here)
+    let rest = node_pairs [] (drop (i + 1) ps) in
+    let here : again (seen s) (more_pairs (string_bytes p.0) (node_tree [] p.1) rest) ≡ true = rw there refl in
+    twice_if_again (node_pairs [] ps) (sym same ∙ ap (again (seen s)) (pairs_from ps i p within is) ∙ here)
 
 -- a key that is added
 pub seen_more : (s after : BTreeSet (Bor (List ℕ))) (key : Bor (List ℕ)) (ps : List (String Global × Node)) (i : ℕ) (p : String Global × Node) (added : Bool) → i < length ps → p ≡ get_or ps i p → key.now ≡ string_bytes p.0
-    → added ≡ not (contains slices_cmp s key) → added ≡ true → after.keys ≡ insert_key slices_cmp s.keys key → again (seen s) (node_pairs (drop i ps)) ≡ again none_before (node_pairs ps)
-    → again (seen after) (node_pairs (drop (i + 1) ps)) ≡ again none_before (node_pairs ps)
+    → added ≡ not (contains slices_cmp s key) → added ≡ true → after.keys ≡ insert_key slices_cmp s.keys key → again (seen s) (node_pairs [] (drop i ps)) ≡ again none_before (node_pairs [] ps)
+    → again (seen after) (node_pairs [] (drop (i + 1) ps)) ≡ again none_before (node_pairs [] ps)
 seen_more s after key ps i p added within is named told was_added keys same =
     let absent : seen s (string_bytes p.0) ≡ false = ap (seen s) (sym named) ∙ not_true added (contains slices_cmp s key) told was_added in
-    let rest = node_pairs (drop (i + 1) ps) in
-    let here : again (seen s) (more_pairs (string_bytes p.0) (node_tree p.1) rest) ≡ again (λ l. bytes_eq l (string_bytes p.0) || seen s l) rest = rw absent refl in
+    let rest = node_pairs [] (drop (i + 1) ps) in
+    let here : again (seen s) (more_pairs (string_bytes p.0) (node_tree [] p.1) rest) ≡ again (λ l. bytes_eq l (string_bytes p.0) || seen s l) rest = rw absent refl in
     again_same (seen after) (λ l. bytes_eq l (string_bytes p.0) || seen s l) rest
-    (λ l. ap (λ ks. list_any (λ k. is_eq (slice_cmp nat_cmp l k.now)) ks) keys ∙ found_after (λ b. is_eq (slice_cmp nat_cmp l b)) s.keys key ∙ ap (λ b. b || seen s l) (is_eq-slice_cmp l key.now ∙ ap (bytes_eq l) named))
+    (λ l. ap (λ ks. list_any (λ k. is_eq (slice_cmp nat_cmp l k.now)) ks) keys ∙ found_after (λ (k : Bor (List ℕ)). k.now) (λ b. is_eq (slice_cmp nat_cmp l b)) s.keys key ∙ ap (λ b. b || seen s l) (is_eq-slice_cmp l key.now ∙ ap (bytes_eq l) named))
     ∙ sym here
     ∙ ap (again (seen s)) (sym (pairs_from ps i p within is))
     ∙ same
 
 -- where all were added, none occurs twice
-pub seen_all : (s : BTreeSet (Bor (List ℕ))) (ps : List (String Global × Node)) (i : ℕ) → length ps ≤ i → again (seen s) (node_pairs (drop i ps)) ≡ again none_before (node_pairs ps) → HasKeyTwice (node_pairs ps) → ⊥
-seen_all s ps i end same = not_twice (node_pairs ps) (sym same ∙ ap (λ qs. again (seen s) (node_pairs qs)) (drop_all i ps end))
+pub seen_all : (s : BTreeSet (Bor (List ℕ))) (ps : List (String Global × Node)) (i : ℕ) → length ps ≤ i → again (seen s) (node_pairs [] (drop i ps)) ≡ again none_before (node_pairs [] ps) → HasKeyTwice (node_pairs [] ps) → ⊥
+seen_all s ps i end same = not_twice (node_pairs [] ps) (sym same ∙ ap (λ qs. again (seen s) (node_pairs [] qs)) (drop_all i ps end))
 
 -- the pairs after one
 behind : (ps : List (String Global × Node)) (i : ℕ) → take (length ps - (i + 1)) (drop (i + 1) ps) ≡ drop (i + 1) ps
@@ -161,15 +161,15 @@ unplaced_lacks (more_pairs l t ps) k none h = by (bytes_eq l k) (place_by ps k) 
 
 -- a key that has a place after its own, and one that has none
 pub placed_twice : (ps : List (String Global × Node)) (i : ℕ) (p : String Global × Node) (key : List ℕ) (found : Option ℕ) → i < length ps → p ≡ get_or ps i p → key ≡ string_bytes p.0
-    → found ≡ place_by (node_pairs (take (length ps - (i + 1)) (drop (i + 1) ps))) key → true ≡ is_some found → HasKeyTwice (node_pairs ps)
+    → found ≡ place_by (node_pairs [] (take (length ps - (i + 1)) (drop (i + 1) ps))) key → true ≡ is_some found → HasKeyTwice (node_pairs [] ps)
 placed_twice ps i p key found within is named told there =
-    let placed = told ∙ ap (λ qs. place_by (node_pairs qs) key) (behind ps i) ∙ ap (place_by (node_pairs (drop (i + 1) ps))) named in
-    twice_further_in ps i (subst HasKeyTwice (sym (pairs_from ps i p within is)) (inl (placed_has (node_pairs (drop (i + 1) ps)) (string_bytes p.0) (sym (there ∙ ap is_some placed)))))
+    let placed = told ∙ ap (λ qs. place_by (node_pairs [] qs) key) (behind ps i) ∙ ap (place_by (node_pairs [] (drop (i + 1) ps))) named in
+    twice_further_in ps i (subst HasKeyTwice (sym (pairs_from ps i p within is)) (inl (placed_has (node_pairs [] (drop (i + 1) ps)) (string_bytes p.0) (sym (there ∙ ap is_some placed)))))
 
 pub unplaced_once : (ps : List (String Global × Node)) (i : ℕ) (p : String Global × Node) (key : List ℕ) (found : Option ℕ) → i < length ps → p ≡ get_or ps i p → key ≡ string_bytes p.0
-    → found ≡ place_by (node_pairs (take (length ps - (i + 1)) (drop (i + 1) ps))) key → false ≡ is_some found
-    → (HasKeyTwice (node_pairs ps) → HasKeyTwice (node_pairs (drop i ps))) → HasKeyTwice (node_pairs ps) → HasKeyTwice (node_pairs (drop (i + 1) ps))
+    → found ≡ place_by (node_pairs [] (take (length ps - (i + 1)) (drop (i + 1) ps))) key → false ≡ is_some found
+    → (HasKeyTwice (node_pairs [] ps) → HasKeyTwice (node_pairs [] (drop i ps))) → HasKeyTwice (node_pairs [] ps) → HasKeyTwice (node_pairs [] (drop (i + 1) ps))
 unplaced_once ps i p key found within is named told none so_far twice =
-    let placed = told ∙ ap (λ qs. place_by (node_pairs qs) key) (behind ps i) ∙ ap (place_by (node_pairs (drop (i + 1) ps))) named in
-    let lacks = unplaced_lacks (node_pairs (drop (i + 1) ps)) (string_bytes p.0) (sym (none ∙ ap is_some placed)) in
+    let placed = told ∙ ap (λ qs. place_by (node_pairs [] qs) key) (behind ps i) ∙ ap (place_by (node_pairs [] (drop (i + 1) ps))) named in
+    let lacks = unplaced_lacks (node_pairs [] (drop (i + 1) ps)) (string_bytes p.0) (sym (none ∙ ap is_some placed)) in
     elim (subst HasKeyTwice (pairs_from ps i p within is) (so_far twice)) [ inl has ↦ absurd (lacks has) | inr rest ↦ rest ]

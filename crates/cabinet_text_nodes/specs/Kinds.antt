@@ -1,8 +1,8 @@
 -- The kinds of nodes.
 use Rattle.cabinet_text_grammar.specs.Keys.{ordered, hashed, kept}
-use Rattle.cabinet_text_grammar.specs.Tree.{truth, number, text, Tree, leaf, shared, nothing, just, list, map}
+use Rattle.cabinet_text_grammar.specs.Tree.{truth, number, text, Tree, leaf, shared, nothing, just, list, map, whole}
 use Rattle.cabinet_text_nodes.specs.declared.node.Kind.{Kind}
-use Rattle.cabinet_text_nodes.specs.declared.node.Kind.TheVariants.{Bool, Int, Text, Shared, Maybe, List, Ordered, Hashed, Kept}
+use Rattle.cabinet_text_nodes.specs.declared.node.Kind.TheVariants.{Bool, Int, Text, Shared, Maybe, List, Ordered, Hashed, Kept, Whole}
 
 abbrev pub kind_of : Tree → Kind
 kind_of (leaf (truth b)) = Bool
@@ -15,3 +15,4 @@ kind_of (list ts) = List
 kind_of (map ordered ps) = Ordered
 kind_of (map hashed ps) = Hashed
 kind_of (map kept ps) = Kept
+kind_of (whole t) = Whole

@@ -1,9 +1,11 @@
 -- The code's types as trees, leaves, steps and lines.
-use Rattle.std.specs.Prelude.{List, [], ◌∷◌, map, Some, None, String, string_bytes}
+use Rattle.std.specs.Prelude.{ℕ, suc, ◌^◌, pos, nat_lt, Bool, true, ◌&&◌, List, [], ◌∷◌, map, Option, Some, None, String, Vec, string_bytes}
+use Rattle.std.specs.List.{list_all}
 use Rattle.std.specs.Rc.{rc_str_bytes}
 use Rattle.std.specs.declared.alloc.Global.{Global}
 use Rattle.cabinet_text_grammar.specs.Keys as keys
 use Rattle.cabinet_text_grammar.specs.Tree as tree
+use Rattle.cabinet_text_grammar.specs.Wholes.{numbered}
 use Rattle.cabinet_text_grammar.specs.Item as item
 use Rattle.cabinet_text_grammar.specs.Path as path
 use Rattle.cabinet_text_grammar.specs.Line as spec_line
@@ -30,29 +32,80 @@ abbrev pub pairs_of : List (String Global × tree.Tree) → tree.Pairs
 pairs_of [] = tree.no_pairs
 pairs_of (p ∷ ps) = tree.more_pairs (string_bytes p.0) p.1 (pairs_of ps)
 
--- one level of a node, with each node inside already seen as its tree
-abbrev pub view_step : Node-F tree.Tree → tree.Tree
-view_step (Node-F.Bool b) = tree.leaf (tree.truth b)
-view_step (Node-F.Int n) = tree.leaf (tree.number n)
-view_step (Node-F.Text t) = tree.leaf (tree.text (string_bytes t))
-view_step (Node-F.Shared t) = tree.shared (rc_str_bytes t)
-view_step (Node-F.Maybe None) = tree.nothing
-view_step (Node-F.Maybe (Some t)) = tree.just t.value
-view_step (Node-F.List v) = tree.list (trees_of v.items)
-view_step (Node-F.Ordered m) = tree.map keys.ordered (pairs_of m.entries)
-view_step (Node-F.Hashed m) = tree.map keys.hashed (pairs_of m.entries)
-view_step (Node-F.Kept v) = tree.map keys.kept (pairs_of v.items)
+-- a tree that is not legal: a number of more than 64 bits
+abbrev pub no_tree : tree.Tree
+no_tree = tree.leaf (tree.number (pos (2 ^ 64)))
 
-abbrev pub node_tree : Node → tree.Tree
-node_tree = fold-Node tree.Tree view_step
+-- a whole has the tree that has its number in a table
+abbrev pub whole_of : Option tree.Tree → tree.Tree
+whole_of None = tree.whole no_tree
+whole_of (Some t) = tree.whole t
+
+-- one level of a node, with each node inside already seen as its tree
+abbrev pub view_step : List tree.Tree → Node-F tree.Tree → tree.Tree
+view_step table (Node-F.Bool b) = tree.leaf (tree.truth b)
+view_step table (Node-F.Int n) = tree.leaf (tree.number n)
+view_step table (Node-F.Text t) = tree.leaf (tree.text (string_bytes t))
+view_step table (Node-F.Shared t) = tree.shared (rc_str_bytes t)
+view_step table (Node-F.Maybe None) = tree.nothing
+view_step table (Node-F.Maybe (Some t)) = tree.just t.value
+view_step table (Node-F.List v) = tree.list (trees_of v.items)
+view_step table (Node-F.Ordered m) = tree.map keys.ordered (pairs_of m.entries)
+view_step table (Node-F.Hashed m) = tree.map keys.hashed (pairs_of m.entries)
+view_step table (Node-F.Kept v) = tree.map keys.kept (pairs_of v.items)
+view_step table (Node-F.Whole n) = whole_of (numbered table n)
+
+-- the numbers of wholes are those of a table
+abbrev pub node_tree : List tree.Tree → Node → tree.Tree
+node_tree table = fold-Node tree.Tree (view_step table)
 
 -- the elements of a list
-abbrev pub node_trees : List Node → tree.Trees
-node_trees ns = trees_of (map node_tree ns)
+abbrev pub node_trees : List tree.Tree → List Node → tree.Trees
+node_trees table ns = trees_of (map (node_tree table) ns)
 
 -- the pairs of a map
-abbrev pub node_pairs : List (String Global × Node) → tree.Pairs
-node_pairs ps = pairs_of (map (λ p. (p.0, node_tree p.1)) ps)
+abbrev pub node_pairs : List tree.Tree → List (String Global × Node) → tree.Pairs
+node_pairs table ps = pairs_of (map (λ p. (p.0, node_tree table p.1)) ps)
+
+-- a table, and after it the trees of nodes, each of which has the numbers of those before it
+abbrev pub table_after : List tree.Tree → List Node → List tree.Tree
+table_after table [] = table
+table_after table (n ∷ ns) = table_after (node_tree table n ∷ table) ns
+
+abbrev pub table_of : List Node → List tree.Tree
+table_of ns = table_after [] ns
+
+-- the trees of the wholes, which may be none
+abbrev pub entries_of : Option (Vec Node Global) → List Node
+entries_of None = []
+entries_of (Some v) = v.items
+
+-- one level of a node, where it is seen whether the numbers in each node inside are below n
+abbrev pub known_step : ℕ → Node-F Bool → Bool
+known_step n (Node-F.Bool b) = true
+known_step n (Node-F.Int m) = true
+known_step n (Node-F.Text t) = true
+known_step n (Node-F.Shared t) = true
+known_step n (Node-F.Maybe None) = true
+known_step n (Node-F.Maybe (Some known)) = known.value
+known_step n (Node-F.List v) = list_all (λ known. known) v.items
+known_step n (Node-F.Ordered m) = list_all (λ p. p.1) m.entries
+known_step n (Node-F.Hashed m) = list_all (λ p. p.1) m.entries
+known_step n (Node-F.Kept v) = list_all (λ p. p.1) v.items
+known_step n (Node-F.Whole m) = nat_lt m n
+
+-- whether the numbers of all wholes in a node are below n
+abbrev pub known_below : ℕ → Node → Bool
+known_below n = fold-Node Bool (known_step n)
+
+-- the same of several nodes
+abbrev pub all_known : ℕ → List Node → Bool
+all_known n xs = list_all (λ known. known) (map (known_below n) xs)
+
+-- whether each node of a table has the numbers of those before it
+abbrev pub known_after : ℕ → List Node → Bool
+known_after n [] = true
+known_after n (x ∷ xs) = known_below n x && known_after (suc n) xs
 
 abbrev pub leaf_of : Leaf → tree.Leaf
 leaf_of (owned.Bool b) = tree.truth b
@@ -73,6 +126,7 @@ item_of (head.List n) = item.list_item n
 item_of (head.Ordered n) = item.map_item keys.ordered n
 item_of (head.Hashed n) = item.map_item keys.hashed n
 item_of (head.Kept n) = item.map_item keys.kept n
+item_of (head.Whole n) = item.whole_item n
 
 abbrev pub lent_item : HeadRef → item.Item
 lent_item (lent_head.Leaf l) = item.leaf_item (lent_leaf l)
@@ -83,6 +137,7 @@ lent_item (lent_head.List n) = item.list_item n
 lent_item (lent_head.Ordered n) = item.map_item keys.ordered n
 lent_item (lent_head.Hashed n) = item.map_item keys.hashed n
 lent_item (lent_head.Kept n) = item.map_item keys.kept n
+lent_item lent_head.Whole = item.whole_head
 
 abbrev pub step_of : Step → path.Step
 step_of (step.Key k) = path.key (string_bytes k)

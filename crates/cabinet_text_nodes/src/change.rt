@@ -1,15 +1,18 @@
 //! Puts a leaf in the place of another.
-ghost use Rattle.std.specs.Prelude.{◌≡◌, ◌<◌, [], ◌∷◌, length, string_bytes, IfSome};
+ghost use Rattle.std.specs.Prelude.{◌≡◌, ◌<◌, List, [], ◌∷◌, length, string_bytes, IfSome};
 ghost use Rattle.cabinet_text_grammar.specs.Keys.{MapKind, kept};
 ghost use Rattle.cabinet_text_grammar.specs.Tree as tree;
+ghost use Rattle.cabinet_text_grammar.specs.Tree.{Tree, IsLegal};
+ghost use Rattle.cabinet_text_grammar.specs.Wholes.{IsTable};
 ghost use Rattle.cabinet_text_nodes.specs.Answers.{Sets, place_by};
-ghost use Rattle.cabinet_text_nodes.specs.View.{node_tree, node_trees, node_pairs, lent_leaf, step_of, path_of};
+ghost use Rattle.cabinet_text_nodes.specs.View.{node_tree, node_trees, node_pairs, table_of, lent_leaf, step_of, path_of};
 ghost use Rattle.cabinet_text_nodes.specs.declared.node.Node.TheVariants as node_of;
 
 use crate::answer::SetAnswer;
 use crate::leaf::LeafRef;
 use crate::line::Step;
 use crate::node::Node;
+use crate::walk::node_in_whole;
 use std::collections::BTreeMap;
 
 /// Writes a text over another of the same length. It allocates no memory.
@@ -23,7 +26,8 @@ fn write_over(text: &mut String, new: &str)
 
 /// Puts a leaf in the place of a node.
 fn put_leaf(node: &mut Node, leaf: LeafRef<'_>) -> SetAnswer
-    ensures { Sets (node_tree node.old) [] (lent_leaf leaf.entry) result (node_tree node.new) }
+    ensures { (table : List Tree) → Sets (node_tree table node.old) [] (lent_leaf leaf.entry) result
+        (node_tree table node.new) }
 {
     match (node, leaf) {
         (Node::Bool(there), LeafRef::Bool(value)) => {
@@ -44,7 +48,7 @@ fn put_leaf(node: &mut Node, leaf: LeafRef<'_>) -> SetAnswer
 
 /// Returns the place of a key. It compares the key with each key up to its place.
 pub(crate) fn place_of(pairs: &[(String, Node)], key: &str) -> Option<usize>
-    ensures place { result ≡ place_by (node_pairs pairs.now) key.now }
+    ensures place { result ≡ place_by (node_pairs [] pairs.now) key.now }
     ensures within { IfSome result (λ place. place < length pairs.now) }
 {
     for (place, (other, _)) in pairs.iter().enumerate() {
@@ -62,9 +66,11 @@ fn change_inside(
     step: &Step,
     rest: &[Step],
     leaf: LeafRef<'_>,
+    wholes: &[Node],
 ) -> SetAnswer
-    ensures { Sets (node_tree (node_of.Maybe content.old)) (step_of step.now ∷ path_of rest.now)
-        (lent_leaf leaf.entry) result (node_tree (node_of.Maybe content.new)) }
+    ensures { IsTable (table_of wholes.now) → IsLegal (node_tree (table_of wholes.now) (node_of.Maybe content.old))
+        → Sets (node_tree (table_of wholes.now) (node_of.Maybe content.old)) (step_of step.now ∷ path_of rest.now)
+        (lent_leaf leaf.entry) result (node_tree (table_of wholes.now) (node_of.Maybe content.new)) }
 {
     let Step::Inside = step else {
         return SetAnswer::Missing;
@@ -72,7 +78,7 @@ fn change_inside(
     let Some(content) = content else {
         return SetAnswer::Missing;
     };
-    change_at(content, rest, leaf)
+    change_at(content, rest, leaf, wholes)
 }
 
 /// Puts a leaf at a path that leads through a list.
@@ -82,15 +88,17 @@ fn change_element(
     step: &Step,
     rest: &[Step],
     leaf: LeafRef<'_>,
+    wholes: &[Node],
 ) -> SetAnswer
-    ensures { Sets (tree.list (node_trees elements.old.items)) (step_of step.now ∷ path_of rest.now)
-        (lent_leaf leaf.entry) result (tree.list (node_trees elements.new.items)) }
+    ensures { IsTable (table_of wholes.now) → IsLegal (tree.list (node_trees (table_of wholes.now) elements.old.items))
+        → Sets (tree.list (node_trees (table_of wholes.now) elements.old.items)) (step_of step.now ∷ path_of rest.now)
+        (lent_leaf leaf.entry) result (tree.list (node_trees (table_of wholes.now) elements.new.items)) }
 {
     let Step::Place(place) = step else {
         return SetAnswer::Missing;
     };
     match elements.get_mut(*place as usize) {
-        Some(element) => change_at(element, rest, leaf),
+        Some(element) => change_at(element, rest, leaf, wholes),
         None => SetAnswer::Missing,
     }
 }
@@ -102,16 +110,19 @@ fn change_value(
     step: &Step,
     rest: &[Step],
     leaf: LeafRef<'_>,
+    wholes: &[Node],
 ) -> SetAnswer
-    ensures { (kind : MapKind) → Sets (tree.map kind (node_pairs map.old.entries))
+    ensures { (kind : MapKind) → IsTable (table_of wholes.now)
+        → IsLegal (tree.map kind (node_pairs (table_of wholes.now) map.old.entries))
+        → Sets (tree.map kind (node_pairs (table_of wholes.now) map.old.entries))
         (step_of step.now ∷ path_of rest.now) (lent_leaf leaf.entry) result
-        (tree.map kind (node_pairs map.new.entries)) }
+        (tree.map kind (node_pairs (table_of wholes.now) map.new.entries)) }
 {
     let Step::Key(key) = step else {
         return SetAnswer::Missing;
     };
     match map.get_mut(key.as_str()) {
-        Some(value) => change_at(value, rest, leaf),
+        Some(value) => change_at(value, rest, leaf, wholes),
         None => SetAnswer::Missing,
     }
 }
@@ -123,34 +134,59 @@ fn change_kept_value(
     step: &Step,
     rest: &[Step],
     leaf: LeafRef<'_>,
+    wholes: &[Node],
 ) -> SetAnswer
-    ensures { Sets (tree.map kept (node_pairs pairs.old.items)) (step_of step.now ∷ path_of rest.now)
-        (lent_leaf leaf.entry) result (tree.map kept (node_pairs pairs.new.items)) }
+    ensures { IsTable (table_of wholes.now) → IsLegal (tree.map kept (node_pairs (table_of wholes.now) pairs.old.items))
+        → Sets (tree.map kept (node_pairs (table_of wholes.now) pairs.old.items)) (step_of step.now ∷ path_of rest.now)
+        (lent_leaf leaf.entry) result (tree.map kept (node_pairs (table_of wholes.now) pairs.new.items)) }
 {
     let Step::Key(key) = step else {
         return SetAnswer::Missing;
     };
     match place_of(pairs, key.as_str()) {
-        Some(place) => change_at(&mut pairs[place].1, rest, leaf),
+        Some(place) => change_at(&mut pairs[place].1, rest, leaf, wholes),
+        None => SetAnswer::Missing,
+    }
+}
+
+/// Returns the outcome of setting a leaf at a path that leads through a whole, where nothing is set.
+fn refuse_in_whole(number: u64, step: &Step, rest: &[Step], wholes: &[Node]) -> SetAnswer
+    ensures { IsTable (table_of wholes.now) → IsLegal (node_tree (table_of wholes.now) (node_of.Whole number))
+        → (l : tree.Leaf) → Sets (node_tree (table_of wholes.now) (node_of.Whole number))
+        (step_of step.now ∷ path_of rest.now) l result
+        (node_tree (table_of wholes.now) (node_of.Whole number)) }
+{
+    let Step::Inside = step else {
+        return SetAnswer::Missing;
+    };
+    match node_in_whole(wholes, number, rest) {
+        Some(_) => SetAnswer::Refused,
         None => SetAnswer::Missing,
     }
 }
 
 /// Puts a leaf at a path. The depth of its recursion is at most the depth at which nodes lie in one another.
 #[cycle(change)]
-pub(crate) fn change_at(node: &mut Node, path: &[Step], leaf: LeafRef<'_>) -> SetAnswer
-    ensures { Sets (node_tree node.old) (path_of path.now) (lent_leaf leaf.entry) result
-        (node_tree node.new) }
+pub(crate) fn change_at(
+    node: &mut Node,
+    path: &[Step],
+    leaf: LeafRef<'_>,
+    wholes: &[Node],
+) -> SetAnswer
+    ensures { IsTable (table_of wholes.now) → IsLegal (node_tree (table_of wholes.now) node.old)
+        → Sets (node_tree (table_of wholes.now) node.old) (path_of path.now) (lent_leaf leaf.entry) result
+        (node_tree (table_of wholes.now) node.new) }
 {
     let Some((step, rest)) = path.split_first() else {
         return put_leaf(node, leaf);
     };
     match node {
-        Node::Maybe(content) => change_inside(content, step, rest, leaf),
-        Node::List(elements) => change_element(elements, step, rest, leaf),
-        Node::Ordered(map) => change_value(map, step, rest, leaf),
-        Node::Hashed(map) => change_value(map, step, rest, leaf),
-        Node::Kept(pairs) => change_kept_value(pairs, step, rest, leaf),
+        Node::Maybe(content) => change_inside(content, step, rest, leaf, wholes),
+        Node::List(elements) => change_element(elements, step, rest, leaf, wholes),
+        Node::Ordered(map) => change_value(map, step, rest, leaf, wholes),
+        Node::Hashed(map) => change_value(map, step, rest, leaf, wholes),
+        Node::Kept(pairs) => change_kept_value(pairs, step, rest, leaf, wholes),
+        Node::Whole(number) => refuse_in_whole(*number, step, rest, wholes),
         _ => SetAnswer::Missing,
     }
 }

@@ -1,6 +1,7 @@
 //! The head of a node: the first line of its text.
-ghost use Rattle.std.specs.Prelude.{◌≡◌};
+ghost use Rattle.std.specs.Prelude.{◌≡◌, List};
 ghost use Rattle.cabinet_text_grammar.specs.Answering.{head_of};
+ghost use Rattle.cabinet_text_grammar.specs.Tree.{Tree};
 ghost use Rattle.cabinet_text_nodes.specs.View.{node_tree, lent_item};
 
 use crate::leaf::{Leaf, LeafRef};
@@ -18,6 +19,8 @@ pub enum Head {
     Ordered(u64),
     Hashed(u64),
     Kept(u64),
+    /// A whole, by its number.
+    Whole(u64),
 }
 
 /// A head whose text is borrowed, from a node or from the bytes of an archive.
@@ -31,12 +34,14 @@ pub enum HeadRef<'a> {
     Ordered(u64),
     Hashed(u64),
     Kept(u64),
+    /// A whole. Answers leave out its number.
+    Whole,
 }
 
 impl Node {
-    /// Returns the head of the node, which is the first line of its text.
+    /// Returns the head of the node, which is the first line of its text but for the number of a whole.
     pub fn head(&self) -> HeadRef<'_>
-        ensures { lent_item result ≡ head_of (node_tree self.now) }
+        ensures { (table : List Tree) → lent_item result ≡ head_of (node_tree table self.now) }
     {
         match self {
             Node::Bool(value) => HeadRef::Leaf(LeafRef::Bool(*value)),
@@ -49,6 +54,7 @@ impl Node {
             Node::Ordered(pairs) => HeadRef::Ordered(pairs.len() as u64),
             Node::Hashed(pairs) => HeadRef::Hashed(pairs.len() as u64),
             Node::Kept(pairs) => HeadRef::Kept(pairs.len() as u64),
+            Node::Whole(_) => HeadRef::Whole,
         }
     }
 }

@@ -1,6 +1,6 @@
 //! The nodes of documents and their kinds.
-ghost use Rattle.std.specs.Prelude.{◌≡◌, ◌≢◌, MatchOption};
-ghost use Rattle.cabinet_text_grammar.specs.Tree.{Leaf, leaf};
+ghost use Rattle.std.specs.Prelude.{◌≡◌, ◌≢◌, List, MatchOption};
+ghost use Rattle.cabinet_text_grammar.specs.Tree.{Leaf, Tree, leaf};
 ghost use Rattle.cabinet_text_nodes.specs.View.{node_tree, lent_leaf};
 ghost use Rattle.cabinet_text_nodes.specs.Kinds.{kind_of};
 
@@ -22,6 +22,8 @@ pub enum Node {
     Hashed(BTreeMap<String, Node>),
     /// A map that keeps the order of its pairs; its keys are distinct.
     Kept(Vec<(String, Node)>),
+    /// A whole, by the number of its tree in the document's table. Many nodes may have one number.
+    Whole(u64),
 }
 
 /// The kinds of nodes, one for each variant of `Node`.
@@ -36,12 +38,13 @@ pub enum Kind {
     Ordered,
     Hashed,
     Kept,
+    Whole,
 }
 
 impl Node {
     /// Returns the kind of the node.
     pub fn kind(&self) -> Kind
-        ensures { result ≡ kind_of (node_tree self.now) }
+        ensures { (table : List Tree) → result ≡ kind_of (node_tree table self.now) }
     {
         match self {
             Node::Bool(_) => Kind::Bool,
@@ -53,13 +56,14 @@ impl Node {
             Node::Ordered(_) => Kind::Ordered,
             Node::Hashed(_) => Kind::Hashed,
             Node::Kept(_) => Kind::Kept,
+            Node::Whole(_) => Kind::Whole,
         }
     }
 
     /// Returns the leaf that the node is, if it is one.
     pub fn as_leaf(&self) -> Option<LeafRef<'_>>
-        ensures { MatchOption result ((l : Leaf)
-            → node_tree self.now ≢ leaf l) (λ l. node_tree self.now ≡ leaf (lent_leaf l)) }
+        ensures { (table : List Tree) → MatchOption result ((l : Leaf) → node_tree table self.now ≢ leaf l)
+            (λ l. node_tree table self.now ≡ leaf (lent_leaf l)) }
     {
         match self {
             Node::Bool(value) => Some(LeafRef::Bool(*value)),

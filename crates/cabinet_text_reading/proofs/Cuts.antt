@@ -6,7 +6,7 @@ use Rattle.std.proofs.Math.Seq.{take-append_seam, drop-append_seam}
 use Rattle.cabinet_text_bytes.specs.Words.{IsEscaped, HasNoSpace, IsAtSpace}
 use Rattle.cabinet_text_grammar.specs.Tree.{Leaf, text, IsLeaf}
 use Rattle.cabinet_text_grammar.specs.Spelling.{escaped, spelled_leaf}
-use Rattle.cabinet_text_grammar.specs.Path.{Step, key, place, inside}
+use Rattle.cabinet_text_grammar.specs.Path.{Step, key}
 use Rattle.cabinet_text_grammar.specs.Line.{Line, get, keys, range, set, IsPossible, IsStep, Says, spelled_path, spelling}
 use Rattle.cabinet_text_grammar.proofs.Escapes.{rest_same, first_differs}
 use Rattle.cabinet_text_grammar.proofs.Lines.{TwoWords, two_words}

@@ -30,7 +30,7 @@ pub kept_key : (bytes : List ℕ) (ks : List (Bor (List ℕ))) (a : Bor (List �
     → list_any (λ k. is_eq (slice_cmp nat_cmp bytes k.now)) ks ≡ has_escaped bytes ps
     → list_any (λ k. is_eq (slice_cmp nat_cmp bytes k.now)) (insert_key slices_cmp ks a) ≡ (bytes_eq bytes (escaped (string_bytes k)) || has_escaped bytes ps)
 kept_key bytes ks a ps k is_escaped exact =
-    found_after (λ b. is_eq (slice_cmp nat_cmp bytes b)) ks a
+    found_after (λ (l : Bor (List ℕ)). l.now) (λ b. is_eq (slice_cmp nat_cmp bytes b)) ks a
     ∙ ap (λ b. is_eq (slice_cmp nat_cmp bytes a.now) || b) exact
     ∙ ap (λ b. b || has_escaped bytes ps) (is_eq-slice_cmp bytes a.now ∙ ap (bytes_eq bytes) is_escaped)
 

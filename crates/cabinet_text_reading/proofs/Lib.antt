@@ -1,9 +1,16 @@
+pub mod Causes
 pub mod Compared
 pub mod Cuts
+pub mod Filling
 pub mod Found
+pub mod Header
 pub mod Heads
+pub mod Lifted
 pub mod LineLemmas
+pub mod Loop
 pub mod Paths
+pub mod Roots
+pub mod ReadTo
 pub mod Stacks
 pub mod Taken
 pub mod Wrong

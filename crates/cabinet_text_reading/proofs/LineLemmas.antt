@@ -5,15 +5,17 @@ use Rattle.std.specs.Str.{IsValidUpTo}
 use Rattle.std.proofs.lemmas.Bool.Decides.{eqb_tells}
 use Rattle.std.proofs.lemmas.List.{take-append-drop, take-append-le, take_all}
 use Rattle.std.proofs.lemmas.Str.{IsUtf8-append}
-use Rattle.cabinet_text_grammar.specs.Due.{Due, a_head, a_key, nothing_more}
-use Rattle.cabinet_text_grammar.specs.Fault.{Piece, pieces_of, onto_first_piece, IsFirstCause}
+use Rattle.cabinet_text_grammar.specs.Due.{Due, the_start, a_head, a_key, nothing_more}
+use Rattle.cabinet_text_grammar.specs.Fault.{Piece, pieces_of, onto_first_piece, HasDueCause}
 use Rattle.cabinet_text_grammar.specs.declared.cause.Cause.{Cause}
 use Rattle.cabinet_text_grammar.specs.declared.cause.Cause.TheVariants.{NotUtf8, NoNewline}
 use Rattle.cabinet_text_grammar.proofs.FirstCauses.{no_newline}
 use Rattle.cabinet_text_grammar.proofs.Lacking.{Lacks, Lacks-from_get_or}
 use Rattle.cabinet_text_grammar.proofs.Pieces.{first_piece, pieces_not_cut}
 use Rattle.cabinet_text_grammar.proofs.Utf8.{IsUtf8-word}
+use Rattle.cabinet_text_reading.specs.Causes.{IsFirstOf}
 use Rattle.cabinet_text_reading.specs.Lines.{IsLongest}
+use Rattle.cabinet_text_reading.proofs.Causes.{first_of}
 
 pub longest_whole : (rest : List ℕ) → IsLongest rest []
 longest_whole rest front tail h some utf8 = omega (arith, ap length h, length-append front tail, some)
@@ -68,14 +70,15 @@ past_front (b ∷ bs) more p ps none h =
       | inr differs ↦ rw differs.0 (ap (onto_first_piece b) (past_front bs more p ps none.1 h))
     ]
 
-not_utf8 : (due : Due) (p : Piece) → (IsUtf8 p.bytes → ⊥) → IsFirstCause due (Some p) NotUtf8
-not_utf8 (a_head depth) p h = record { has_cause = h; first = λ other below c. absurd (omega (arith, below)) }
+not_utf8 : (due : Due) (p : Piece) → (IsUtf8 p.bytes → ⊥) → IsFirstOf (HasDueCause due (Some p)) NotUtf8
+not_utf8 the_start p h = record { has_cause = h; first = λ other below c. absurd (omega (arith, below)) }
+not_utf8 (a_head table depth) p h = record { has_cause = h; first = λ other below c. absurd (omega (arith, below)) }
 not_utf8 (a_key kind keys) p h = record { has_cause = h; first = λ other below c. absurd (omega (arith, below)) }
 not_utf8 nothing_more p h = record { has_cause = h; first = λ other below c. absurd (omega (arith, below)) }
 
 module _ (rest : List ℕ) (none : (k : ℕ) → k < length rest → get_or rest k 0 ≢ 10) (utf8 : IsUtf8 rest) where
   -- a line that continues after the front that is UTF-8
-  pub not_utf8_first : (more : List ℕ) → 0 < length more → IsLongest rest more → (due : Due) → IsFirstCause due (slice_get (pieces_of (rest ++ more)) 0) NotUtf8
+  pub not_utf8_first : (more : List ℕ) → 0 < length more → IsLongest rest more → (due : Due) → IsFirstOf (HasDueCause due (slice_get (pieces_of (rest ++ more)) 0)) NotUtf8
   not_utf8_first [] some longest due = absurd (omega (arith, some))
   not_utf8_first (b ∷ bs) some longest due =
       elim (eqb_tells b 10) [
@@ -83,14 +86,14 @@ module _ (rest : List ℕ) (none : (k : ℕ) → k < length rest → get_or rest
         | inr differs ↦
             let f = begun b bs differs.0 in
             let p : Piece = record { bytes = b ∷ f.inner; ended = f.is_ended } in
-            subst (λ o. IsFirstCause due o NotUtf8) (sym (ap (λ ps. slice_get ps 0) (past_front rest (b ∷ bs) p f.pieces (Lacks-from_get_or 10 rest none) f.is_first)))
+            subst (λ o. IsFirstOf (HasDueCause due o) NotUtf8) (sym (ap (λ ps. slice_get ps 0) (past_front rest (b ∷ bs) p f.pieces (Lacks-from_get_or 10 rest none) f.is_first)))
             (not_utf8 due (record { bytes = rest ++ b ∷ f.inner; ended = f.is_ended }) (longest (b ∷ f.inner) f.tail (ap (λ w. b ∷ w) f.begins) (omega arith)))
       ]
 
   -- a line that no newline ends
-  pub no_newline_first : (more : List ℕ) → 0 < length rest → length more ≡ 0 → (due : Due) → IsFirstCause due (slice_get (pieces_of (rest ++ more)) 0) NoNewline
+  pub no_newline_first : (more : List ℕ) → 0 < length rest → length more ≡ 0 → (due : Due) → IsFirstOf (HasDueCause due (slice_get (pieces_of (rest ++ more)) 0)) NoNewline
   no_newline_first [] some nothing due =
-      subst (λ o. IsFirstCause due o NoNewline) (sym (ap (λ w. slice_get (pieces_of w) 0) (append-nil rest) ∙ ap (λ ps. slice_get ps 0) (pieces_not_cut rest some none))) (no_newline due rest utf8)
+      subst (λ o. IsFirstOf (HasDueCause due o) NoNewline) (sym (ap (λ w. slice_get (pieces_of w) 0) (append-nil rest) ∙ ap (λ ps. slice_get ps 0) (pieces_not_cut rest some none))) (first_of (no_newline due rest utf8))
   no_newline_first (b ∷ bs) some nothing due = absurd (omega (arith, nothing))
 
 pub nothing_left : (rest more : List ℕ) → length rest ≡ 0 → length more ≡ 0 → rest ++ more ≡ []

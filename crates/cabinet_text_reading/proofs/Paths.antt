@@ -1,5 +1,5 @@
 -- Where the words of a line end, and how a path begins.
-use Rattle.std.proofs.Common.{◌≡◌, ◌≢◌, ℕ, ◌+◌, ◌<◌, Bool, true, false, List, [], ◌∷◌, ◌++◌, length, Bor, sym, ap, subst, ◌∙◌, refl, arith, append_assoc, append-nil, length-append, codes, All}
+use Rattle.std.proofs.Common.{◌≡◌, ◌≢◌, ℕ, ◌<◌, Bool, true, false, List, [], ◌∷◌, ◌++◌, length, Bor, sym, ap, subst, ◌∙◌, refl, arith, append_assoc, append-nil, length-append, codes, All}
 use Rattle.std.specs.Bool.{OnTrue, OnFalse}
 use Rattle.std.specs.Fmt.{decimal}
 use Rattle.std.proofs.lemmas.List.{map-append}

@@ -11,7 +11,7 @@ use Rattle.std.proofs.lemmas.List.Elements.{All-nil, All-cons, All-head, All-tai
 use Rattle.cabinet_text_bytes.specs.Words.{IsEscaped}
 use Rattle.cabinet_text_grammar.specs.Due.{a_key}
 use Rattle.cabinet_text_grammar.specs.Item.{key_item}
-use Rattle.cabinet_text_grammar.specs.Fault.{IsFirstCause}
+use Rattle.cabinet_text_grammar.specs.Fault.{HasDueCause}
 use Rattle.cabinet_text_grammar.specs.Frame.{keys_after}
 use Rattle.cabinet_text_grammar.specs.Keys.{MapKind, ordered, kept, IsAboveLast, MayFollow}
 use Rattle.cabinet_text_grammar.specs.Spelling.{escaped}
@@ -20,8 +20,9 @@ use Rattle.cabinet_text_grammar.proofs.Escapes.{escaped_injective}
 use Rattle.cabinet_text_grammar.proofs.FirstCauses.{wrong_key, wrong_key_cause}
 use Rattle.cabinet_text_nodes.specs.View.{node_pairs}
 use Rattle.cabinet_text_nodes.specs.declared.node.Node.{Node}
-use Rattle.cabinet_text_grammar.proofs.Verdicts.{memory_first}
+use Rattle.cabinet_text_reading.specs.Causes.{IsFirstOf}
 use Rattle.cabinet_text_reading.specs.Told.{IsKeyAfter, RefusesKey, key_line}
+use Rattle.cabinet_text_reading.proofs.Causes.{first_of, memory_first}
 use Rattle.cabinet_text_reading.proofs.Found.{LacksEscaped}
 
 abbrev or_else : {X : Type 0} → X → Option X → X
@@ -30,11 +31,11 @@ or_else x (Some y) = y
 
 -- the last pair has the last key
 last_key : (keys : List (List ℕ)) (e : String Global × Node) (es : List (String Global × Node)) (p : String Global × Node) (n : ℕ) → n ≡ length es → slice_get (e ∷ es) n ≡ Some p
-    → (others : List (List ℕ)) × (keys_after keys (node_pairs (e ∷ es)) ≡ string_bytes p.0 ∷ others)
+    → (others : List (List ℕ)) × (keys_after keys (node_pairs [] (e ∷ es)) ≡ string_bytes p.0 ∷ others)
 last_key keys e [] p n counted h = (keys, ap (λ o. string_bytes (or_else e o).0 ∷ keys) (sym (ap (slice_get (e ∷ [])) counted) ∙ h))
 last_key keys e (f ∷ es) p n counted h = last_key (string_bytes e.0 ∷ keys) f es p (length es) refl (sym (ap (slice_get (e ∷ f ∷ es)) counted) ∙ h)
 
-last_of : (es : List (String Global × Node)) (p : String Global × Node) → slice_get es (length es - 1) ≡ Some p → (others : List (List ℕ)) × (keys_after [] (node_pairs es) ≡ string_bytes p.0 ∷ others)
+last_of : (es : List (String Global × Node)) (p : String Global × Node) → slice_get es (length es - 1) ≡ Some p → (others : List (List ℕ)) × (keys_after [] (node_pairs [] es) ≡ string_bytes p.0 ∷ others)
 last_of [] p h = absurd cc
 last_of (e ∷ es) p h = last_key [] e es p (length (e ∷ es) - 1) (omega arith) h
 
@@ -60,7 +61,7 @@ module _ (es : List (String Global × Node)) (last : String Global) (value : Nod
 
 -- a key that no pair of a kept map has
 kept_after : (keys : List (List ℕ)) (es : List (String Global × Node)) (argument k : List ℕ) → argument ≡ escaped k → All (λ before. before ≢ k) keys → LacksEscaped argument es
-    → All (λ before. before ≢ k) (keys_after keys (node_pairs es))
+    → All (λ before. before ≢ k) (keys_after keys (node_pairs [] es))
 kept_after keys [] argument k e all lacks = all
 kept_after keys (p ∷ es) argument k e all lacks =
     let here : string_bytes p.0 ≢ k = λ same. All-head (λ p. argument ≢ escaped (string_bytes p.0)) p es lacks (e ∙ ap escaped (sym same)) in
@@ -69,7 +70,7 @@ kept_after keys (p ∷ es) argument k e all lacks =
 pub after_where_lacks : (es : List (String Global × Node)) (argument : List ℕ) → LacksEscaped argument es → IsKeyAfter kept es argument
 after_where_lacks es argument lacks k e = kept_after [] es argument k e (All-nil (λ before. before ≢ k)) lacks
 
-kept_before : (keys : List (List ℕ)) (es : List (String Global × Node)) (argument k : List ℕ) → argument ≡ escaped k → All (λ before. before ≢ k) (keys_after keys (node_pairs es))
+kept_before : (keys : List (List ℕ)) (es : List (String Global × Node)) (argument k : List ℕ) → argument ≡ escaped k → All (λ before. before ≢ k) (keys_after keys (node_pairs [] es))
     → All (λ before. before ≢ k) keys × LacksEscaped argument es
 kept_before keys [] argument k e all = (all, All-nil (λ p. argument ≢ escaped (string_bytes p.0)))
 kept_before keys (p ∷ es) argument k e all =
@@ -82,11 +83,11 @@ not_after_where_found es argument is found after = found (kept_before [] es argu
 
 -- the first cause for which a key is not added after some pairs
 pub refused_first : (kind : MapKind) (es : List (String Global × Node)) (argument : List ℕ) (cause : Cause) → IsEscaped argument → RefusesKey kind (wrong_key_cause kind) es argument cause
-    → IsFirstCause (a_key kind (keys_after [] (node_pairs es))) (Some (key_line argument)) cause
+    → IsFirstOf (HasDueCause (a_key kind (keys_after [] (node_pairs [] es))) (Some (key_line argument))) cause
 refused_first kind es argument cause is (inl h) =
-    let keys = keys_after [] (node_pairs es) in
+    let keys = keys_after [] (node_pairs [] es) in
     let wrong : MayFollow kind keys is.0 → ⊥ = λ may. h.1 (λ k e. subst (MayFollow kind keys) (escaped_injective is.0 k (sym is.2 ∙ e)) may) in
-    rw (h.0, is.2) (wrong_key kind keys is.0 is.1 wrong)
+    rw (h.0, is.2) (first_of (wrong_key kind keys is.0 is.1 wrong))
 refused_first kind es argument cause is (inr h) =
-    let keys = keys_after [] (node_pairs es) in
-    rw (h.0, is.2) (memory_first (a_key kind keys) (key_item is.0) is.1 (is.1, h.1 is.0 is.2) tt)
+    let keys = keys_after [] (node_pairs [] es) in
+    rw (h.0, is.2) (memory_first (a_key kind keys) (key_item is.0) (is.1, h.1 is.0 is.2) tt)

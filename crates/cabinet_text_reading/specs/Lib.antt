@@ -1,3 +1,4 @@
+pub mod Causes
 pub mod Heads
 pub mod Kept
 pub mod Lines
@@ -5,4 +6,5 @@ pub mod Parts
 pub mod Reading
 pub mod Told
 pub mod View
+pub mod Wholes
 pub use Rattle.cabinet_text_grammar.specs as TextGrammar

@@ -12,7 +12,7 @@ use Rattle.cabinet_text_nodes.specs.declared.node.Node.{Node}
 
 -- the key that has this escaped form may follow those of some pairs
 abbrev pub IsKeyAfter : MapKind → List (String Global × Node) → List ℕ → Type 0
-IsKeyAfter kind ps argument = (k : List ℕ) → argument ≡ escaped k → MayFollow kind (keys_after [] (node_pairs ps)) k
+IsKeyAfter kind ps argument = (k : List ℕ) → argument ≡ escaped k → MayFollow kind (keys_after [] (node_pairs [] ps)) k
 
 -- the cause for which it is not added after them: it may not follow them, which is the cause `wrong`, or it may and
 -- memory is refused

@@ -1,13 +1,18 @@
 //! Reads heads of nodes from their lines.
-ghost use Rattle.std.specs.Prelude.{◌≡◌, ◌≢◌, ℕ, ◌≤◌, ◌++◌, List, true, codes, IsUtf8, IfOk, IfErr, MatchOption, string_bytes};
+ghost use Rattle.std.specs.Prelude.{◌≡◌, ◌≢◌, ℕ, ◌≤◌, ◌++◌, List, true, IsUtf8, IfOk, IfErr, MatchOption, string_bytes};
 ghost use Rattle.std.specs.Fmt.{decimal};
 ghost use Rattle.std.specs.Rc.{rc_str_bytes};
-ghost use Rattle.cabinet_text_grammar.specs.Item.{none_item, some_item};
+ghost use Rattle.cabinet_text_grammar.specs.Item.{Item, none_item, some_item};
+ghost use Rattle.cabinet_text_grammar.specs.declared.cause.Cause.TheVariants.{OutOfMemory};
 ghost use Rattle.cabinet_text_grammar.specs.Due.{a_head, Admits};
 ghost use Rattle.cabinet_text_grammar.specs.Spelling.{escaped, spelled};
-ghost use Rattle.cabinet_text_grammar.specs.Fault.{HasCount, IsFirstCause};
+ghost use Rattle.cabinet_text_grammar.specs.Fault.{HasCount, HasDueCause};
+ghost use Rattle.cabinet_text_grammar.specs.Tree.{Tree};
+ghost use Rattle.cabinet_text_grammar.specs.Wholes.{IsTable};
+ghost use Rattle.cabinet_text_nodes.specs.Faults.{AreDepths};
 ghost use Rattle.cabinet_text_nodes.specs.View.{item_of};
-ghost use Rattle.cabinet_text_reading.specs.Heads.{IsContainer, count_word, RefusesShared, RefusesText};
+ghost use Rattle.cabinet_text_reading.specs.Causes.{IsFirstOf};
+ghost use Rattle.cabinet_text_reading.specs.Heads.{IsTextItem, IsContainer, inner_depth, count_word, RefusesShared, RefusesText};
 
 use cabinet_text_bytes::{after_prefix, read_count, read_number, read_truth, try_unescape};
 use cabinet_text_grammar::{Cause, MAX_DEPTH};
@@ -15,13 +20,14 @@ use cabinet_text_nodes::{Head, Leaf, SharedTexts};
 use std::alloc::Global;
 use std::rc::RcStr;
 
-/// The containers whose heads have a count.
+/// The containers whose heads have a number: a count, or the number of a whole.
 #[derive(Clone, Copy)]
 enum Counted {
     List,
     Ordered,
     Hashed,
     Kept,
+    Whole,
 }
 
 /// Reads the text that an argument is the escaped form of. `BadEscape` if there is none; `OutOfMemory` if an allocation
@@ -72,24 +78,45 @@ fn count_argument(line: &[u8]) -> Option<(Counted, &[u8])>
     if let Some(digits) = after_prefix(line, b"kept ".as_slice()) {
         return Some((Counted::Kept, digits));
     }
+    if let Some(digits) = after_prefix(line, b"whole ".as_slice()) {
+        return Some((Counted::Whole, digits));
+    }
     None
 }
 
-/// Returns the head of a container, or `TooDeep` if it is not allowed inside `depth` containers.
-fn within(head: Head, depth: usize) -> Result<Head, Cause>
+/// Returns how deep containers are known to be nested inside a container, or `None` for a whole that is not complete.
+/// `depths` are the depths of the complete wholes, by their numbers.
+fn inner_depth(head: &Head, depths: &[usize]) -> Option<usize>
+    ensures { result ≡ inner_depth depths.now (item_of head.now) }
+{
+    match head {
+        Head::Whole(number) => depths.get(*number as usize).copied(),
+        _ => Some(0),
+    }
+}
+
+/// Returns the head of a container, if it is allowed inside `depth` containers. `UnknownWhole` for a whole that is not
+/// complete; `TooDeep` if too many containers would be nested.
+fn within(head: Head, depth: usize, depths: &[usize]) -> Result<Head, Cause>
     requires { IsContainer (item_of head) }
     ensures same { IfOk result (λ inner. item_of inner ≡ item_of head) }
-    ensures head { IfOk result (λ inner. Admits (a_head depth) (item_of inner)) }
-    ensures fault { IfErr result (IsFirstCause (a_head depth)
-        (Some (record { bytes = spelled (item_of head); ended = true }))) }
+    ensures head { (table : List Tree) → AreDepths table depths.now
+        → IfOk result (λ inner. Admits (a_head table depth) (item_of inner)) }
+    ensures fault { (table : List Tree) → AreDepths table depths.now → IsTable table
+        → IfErr result (IsFirstOf (HasDueCause (a_head table depth)
+        (Some (record { bytes = spelled (item_of head); ended = true })))) }
+    ensures memory { IfErr result (λ cause. cause ≢ OutOfMemory) }
 {
-    if depth >= MAX_DEPTH {
+    let Some(inner) = inner_depth(&head, depths) else {
+        return Err(Cause::UnknownWhole);
+    };
+    if depth.saturating_add(inner) >= MAX_DEPTH {
         return Err(Cause::TooDeep);
     }
     Ok(head)
 }
 
-/// Returns the head of a container with a count.
+/// Returns the head of a container with a number.
 fn head_of(container: Counted, count: u64) -> Head
     ensures container { IsContainer (item_of result) }
     ensures line { spelled (item_of result) ≡ count_word container ++ decimal count }
@@ -99,21 +126,30 @@ fn head_of(container: Counted, count: u64) -> Head
         Counted::Ordered => Head::Ordered(count),
         Counted::Hashed => Head::Hashed(count),
         Counted::Kept => Head::Kept(count),
+        Counted::Whole => Head::Whole(count),
     }
 }
 
 /// Reads the head of a container from the bytes after its word.
-fn read_counted(container: Counted, digits: &[u8], depth: usize) -> Result<Head, Cause>
+fn read_counted(
+    container: Counted,
+    digits: &[u8],
+    depth: usize,
+    depths: &[usize],
+) -> Result<Head, Cause>
     requires { IsUtf8 (count_word container ++ digits.now) }
-    ensures head { IfOk result (λ head. Admits (a_head depth) (item_of head)) }
+    ensures head { (table : List Tree) → AreDepths table depths.now
+        → IfOk result (λ head. Admits (a_head table depth) (item_of head)) }
     ensures line { IfOk result (λ head. count_word container ++ digits.now ≡ spelled (item_of head)) }
-    ensures fault { IfErr result (IsFirstCause (a_head depth)
-        (Some (record { bytes = count_word container ++ digits.now; ended = true }))) }
+    ensures fault { (table : List Tree) → AreDepths table depths.now → IsTable table
+        → IfErr result (IsFirstOf (HasDueCause (a_head table depth)
+        (Some (record { bytes = count_word container ++ digits.now; ended = true })))) }
+    ensures memory { IfErr result (λ cause. cause ≢ OutOfMemory) }
 {
     let Some(count) = read_count(digits) else {
         return Err(Cause::BadNumber);
     };
-    within(head_of(container, count), depth)
+    within(head_of(container, count), depth, depths)
 }
 
 /// Reads a line as the head of an option, `none` or `some`.
@@ -131,17 +167,21 @@ fn read_option(line: &[u8]) -> Option<Head>
     None
 }
 
-/// Reads a line as a head inside `depth` containers.
+/// Reads a line as a head inside `depth` containers. `depths` are the depths of the complete wholes, by their numbers.
 pub(crate) fn read_head(
     alloc: Global,
     line: &str,
     depth: usize,
+    depths: &[usize],
     texts: &mut SharedTexts,
 ) -> Result<Head, Cause>
-    ensures head { IfOk result (λ head. Admits (a_head depth) (item_of head)) }
+    ensures head { (table : List Tree) → AreDepths table depths.now
+        → IfOk result (λ head. Admits (a_head table depth) (item_of head)) }
     ensures line { IfOk result (λ head. line.now ≡ spelled (item_of head)) }
-    ensures fault { IfErr result (IsFirstCause (a_head depth)
-        (Some (record { bytes = line.now; ended = true }))) }
+    ensures fault { (table : List Tree) → AreDepths table depths.now → IsTable table
+        → IfErr result (IsFirstOf (HasDueCause (a_head table depth)
+        (Some (record { bytes = line.now; ended = true })))) }
+    ensures memory { IfErr result (λ cause. cause ≡ OutOfMemory → (i : Item) × IsTextItem i × (line.now ≡ spelled i)) }
 {
     let bytes = line.as_bytes();
     if let Some(argument) = after_prefix(bytes, b"text '".as_slice()) {
@@ -149,10 +189,8 @@ pub(crate) fn read_head(
         return Ok(Head::Leaf(Leaf::Text(text)));
     }
     if let Some(argument) = after_prefix(bytes, b"shared '".as_slice()) {
-        return match read_shared(alloc, argument, texts) {
-            Ok(text) => Ok(Head::Shared(text)),
-            Err(cause) => Err(cause),
-        };
+        let text = read_shared(alloc, argument, texts)?;
+        return Ok(Head::Shared(text));
     }
     if let Some(digits) = after_prefix(bytes, b"int ".as_slice()) {
         return match read_number(digits) {
@@ -161,13 +199,13 @@ pub(crate) fn read_head(
         };
     }
     if let Some((container, digits)) = count_argument(bytes) {
-        return read_counted(container, digits, depth);
+        return read_counted(container, digits, depth, depths);
     }
     if let Some(value) = read_truth(bytes) {
         return Ok(Head::Leaf(Leaf::Bool(value)));
     }
     match read_option(bytes) {
         None => Err(Cause::UnknownHead),
-        Some(head) => within(head, depth),
+        Some(head) => within(head, depth, depths),
     }
 }

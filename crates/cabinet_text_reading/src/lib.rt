@@ -9,8 +9,10 @@ pub use stack::{
     Due, Frame, KeptKeyed, KeptPairs, Keyed, Next, OpenMap, Pairs, cmp_escaped, take_head, take_key,
 };
 
+mod completed;
 mod head;
 mod line;
 mod text;
+mod wholes;
 
 pub use text::{TextRefusal, read_text};

@@ -2,8 +2,9 @@
 ghost use Rattle.std.specs.Prelude.{◌≡◌, ◌≢◌, ℕ, ◌<◌, ◌++◌, ◌∷◌, [], List, true, length, slice_get, slice_index, EachIndex, IfNone, IfSome, IfOk, IfErr, IsUtf8, MatchOption, codes};
 ghost use Rattle.cabinet_text_grammar.specs.Keys.{MapKind};
 ghost use Rattle.cabinet_text_grammar.specs.Due.{Due, a_key, nothing_more};
-ghost use Rattle.cabinet_text_grammar.specs.Fault.{pieces_of, IsFirstCause};
+ghost use Rattle.cabinet_text_grammar.specs.Fault.{pieces_of, HasDueCause, rank};
 ghost use Rattle.cabinet_text_bytes.specs.Words.{IsEscaped};
+ghost use Rattle.cabinet_text_reading.specs.Causes.{IsFirstOf};
 ghost use Rattle.cabinet_text_reading.specs.Lines.{IsLongest};
 
 use cabinet_text_bytes::{after_prefix, unescaped_len};
@@ -59,6 +60,13 @@ impl<'a> Lines<'a> {
         }
     }
 
+    /// Returns the number of bytes.
+    pub(crate) fn len(&self) -> usize
+        ensures { result ≡ length self.now }
+    {
+        self.rest.len() + self.more.len()
+    }
+
     /// Returns the first line and the rest after it. If no line ends, returns the fault of the bytes that are left, or
     /// `None` if there are none.
     #[inline(always)]
@@ -68,7 +76,8 @@ impl<'a> Lines<'a> {
         ensures utf8 { IfOk result (λ next. IsUtf8 next.0.now) }
         ensures parts { IfOk result (λ next. self.entry ≡ next.0.now ++ 10 ∷ next.1) }
         ensures end { IfErr result (λ fault. MatchOption fault (self.entry ≡ [])
-            (λ cause. (due : Due) → IsFirstCause due (slice_get (pieces_of self.entry) 0) cause)) }
+            (λ cause. (due : Due) → IsFirstOf (HasDueCause due (slice_get (pieces_of self.entry) 0)) cause)) }
+        ensures early { IfErr result (λ fault. IfSome fault (λ cause. rank cause < 3)) }
     {
         let Lines { rest, more } = self;
         if let Some((line, after)) = split_line(rest) {
@@ -89,7 +98,8 @@ impl<'a> Lines<'a> {
             (record { bytes = next.0.now; ended = true })) }
         ensures parts { IfOk result (λ next. self.entry ≡ next.0.now ++ 10 ∷ next.1) }
         ensures fault { IfErr result (λ cause. (due : Due) → due ≢ nothing_more
-            → IsFirstCause due (slice_get (pieces_of self.entry) 0) cause) }
+            → IsFirstOf (HasDueCause due (slice_get (pieces_of self.entry) 0)) cause) }
+        ensures early { IfErr result (λ cause. rank cause < 3) }
     {
         match self.cut_line() {
             Ok(next) => Ok(next),
@@ -101,7 +111,7 @@ impl<'a> Lines<'a> {
     /// Returns the fault of what is left after a document, if anything is left.
     pub(crate) fn fault_after(self) -> Option<Cause>
         ensures { MatchOption result (self.entry ≡ [])
-            (IsFirstCause nothing_more (slice_get (pieces_of self.entry) 0)) }
+            (IsFirstOf (HasDueCause nothing_more (slice_get (pieces_of self.entry) 0))) }
     {
         match self.cut_line() {
             Ok(_) => Some(Cause::LineAfterEnd),
@@ -115,7 +125,7 @@ pub(crate) fn read_key_argument(line: &str) -> Result<&[u8], Cause>
     ensures argument { IfOk result (λ argument. IsEscaped argument.now) }
     ensures line { IfOk result (λ argument. line.now ≡ codes "'" ++ argument.now) }
     ensures fault { IfErr result (λ cause. (kind : MapKind) (keys : List (List ℕ))
-        → IsFirstCause (a_key kind keys) (Some (record { bytes = line.now; ended = true })) cause) }
+        → IsFirstOf (HasDueCause (a_key kind keys) (Some (record { bytes = line.now; ended = true }))) cause) }
 {
     let bytes = line.as_bytes();
     let Some(argument) = after_prefix(bytes, b"'".as_slice()) else {

@@ -1,6 +1,7 @@
 //! The open containers of a document that is being read.
 
 mod ascending;
+mod completing;
 mod due;
 mod frame;
 mod kept;
@@ -9,6 +10,7 @@ mod keyed;
 mod pairs;
 mod taking;
 
+pub(crate) use completing::{all_lack_one, completes};
 pub use due::{Due, Next};
 pub use frame::{Frame, OpenMap};
 pub use kept::{KeptKeyed, KeptPairs};

@@ -1,21 +1,29 @@
 //! Reads texts of documents: the result is the document with that text, or the first faulty line.
-ghost use Rattle.std.specs.Prelude.{◌≡◌, ◌+◌, ◌++◌, Some, true, length, IfOk, IfErr};
-ghost use Rattle.cabinet_text_grammar.specs.Tree.{IsDocument};
-ghost use Rattle.cabinet_text_grammar.specs.Item.{items};
-ghost use Rattle.cabinet_text_grammar.specs.Frame.{AreOpen};
-ghost use Rattle.cabinet_text_grammar.specs.Due.{due_in};
-ghost use Rattle.cabinet_text_grammar.specs.Spelling.{text_of};
-ghost use Rattle.cabinet_text_grammar.specs.Fault.{IsFirstCause, FirstFault};
+ghost use Rattle.std.specs.Prelude.{◌≡◌, ◌≢◌, ℕ, ◌<◌, ◌≤◌, ◌^◌, ◌+◌, ◌++◌, ◌∷◌, [], List, Some, true, length, take, drop, slice_get, codes, IfOk, IfErr};
+ghost use Rattle.cabinet_text_grammar.specs.Wholes.{wholes_of, IsDocument};
+ghost use Rattle.cabinet_text_grammar.specs.Item.{Item, document_items, wholes_item};
+ghost use Rattle.cabinet_text_grammar.specs.Reading.{due_at, reading, onward};
+ghost use Rattle.cabinet_text_grammar.specs.Spelling.{spelled, text_of};
+ghost use Rattle.cabinet_text_grammar.specs.Fault.{pieces_of, HasDueCause, rank, IsFirstCause, FirstFault};
+ghost use Rattle.cabinet_text_grammar.specs.Due as grammar_due;
+ghost use Rattle.cabinet_text_grammar.specs.Due.{nothing_more};
+ghost use Rattle.cabinet_text_grammar.specs.declared.cause.Cause.TheVariants.{OutOfMemory};
 ghost use Rattle.cabinet_text_grammar.specs.Machine.{going};
-ghost use Rattle.cabinet_text_nodes.specs.View.{node_tree};
-ghost use Rattle.cabinet_text_reading.specs.View.{key_due, stack_of, inside_map, open_at, state_of};
 ghost use Rattle.cabinet_text_grammar.specs.Steps.{TakesLine};
+ghost use Rattle.cabinet_text_nodes.specs.View.{node_tree, item_of};
+ghost use Rattle.cabinet_text_reading.specs.View.{stack_of, inside_map, open_at, state_of};
+ghost use Rattle.cabinet_text_reading.specs.Causes.{IsFirstOf};
+ghost use Rattle.cabinet_text_reading.specs.Heads.{IsTextItem};
+ghost use Rattle.cabinet_text_reading.specs.Wholes.{table_in, reading_of, number_of, IsAtLine};
 
+use crate::completed::check_tree;
 use crate::head::read_head;
 use crate::line::{Lines, read_key_argument};
-use crate::stack::{Due, Frame, Next, OpenMap, take_head, take_key};
+use crate::stack::{Due, Frame, Next, OpenMap, all_lack_one, completes, take_head, take_key};
+use crate::wholes::Wholes;
+use cabinet_text_bytes::{after_prefix, read_count};
 use cabinet_text_grammar::Cause;
-use cabinet_text_nodes::{Document, Node, SharedTexts};
+use cabinet_text_nodes::{Document, Head, Node, SharedTexts};
 use std::alloc::Global;
 use thiserror::Error;
 
@@ -27,20 +35,75 @@ pub struct TextRefusal {
     pub cause: Cause,
 }
 
-/// Takes in the line of a node's head.
+/// Returns the number that a head tells, if it is that of a whole.
+fn whole_number(head: &Head) -> Option<u64>
+    ensures { result ≡ number_of (item_of head.now) }
+{
+    match head {
+        Head::Whole(number) => Some(*number),
+        _ => None,
+    }
+}
+
+/// Returns the fault of the line of a text for which memory was refused: where the line completes a tree, what is asked
+/// of the tree comes first.
+fn fault_of_text(wholes: &Wholes<'_>, stack: &[Frame<'_>], lines: &[u8]) -> Cause
+    ensures { (i : Item) → IsTextItem i
+        → IsAtLine wholes.now (stack_of (table_in wholes.now) stack.now) (spelled i) lines.now
+        → HasDueCause (due_at (reading_of wholes.now (stack_of (table_in wholes.now) stack.now)))
+        (Some (record { bytes = spelled i; ended = true })) OutOfMemory
+        → IsFirstCause (reading (reading_of wholes.now (stack_of (table_in wholes.now) stack.now)))
+        (Some (record { bytes = spelled i; ended = true })) result }
+{
+    if !all_lack_one(stack) {
+        return Cause::OutOfMemory;
+    }
+    match check_tree(wholes, stack, None, lines) {
+        Ok(()) => Cause::OutOfMemory,
+        Err(cause) => cause,
+    }
+}
+
+/// Returns the fault of the line of a head that was not read for this cause.
+fn fault_of_head(cause: Cause, wholes: &Wholes<'_>, stack: &[Frame<'_>], lines: &[u8]) -> Cause
+    ensures { (line : List ℕ)
+        → IsAtLine wholes.now (stack_of (table_in wholes.now) stack.now) line lines.now
+        → IsFirstOf (HasDueCause (due_at (reading_of wholes.now (stack_of (table_in wholes.now) stack.now)))
+        (Some (record { bytes = line; ended = true }))) cause
+        → (cause ≡ OutOfMemory → (i : Item) × IsTextItem i × (line ≡ spelled i))
+        → IsFirstCause (reading (reading_of wholes.now (stack_of (table_in wholes.now) stack.now)))
+        (Some (record { bytes = line; ended = true })) result }
+{
+    match cause {
+        Cause::OutOfMemory => fault_of_text(wholes, stack, lines),
+        _ => cause,
+    }
+}
+
+/// Takes in the line of a node's head. `lines` are the lines of the tree that is read, up to this one.
 fn take_head_line<'a>(
     alloc: Global,
     line: &str,
+    lines: &[u8],
+    wholes: &Wholes<'_>,
     texts: &mut SharedTexts,
     stack: &mut Vec<Frame<'a>>,
 ) -> Result<Next<'a>, Cause>
-    requires { AreOpen (stack_of stack.old.items) }
-    ensures taken { IfOk result (λ next. TakesLine (stack_of stack.old.items) line.now
-        (state_of next stack.new.items)) }
-    ensures fault { IfErr result (IsFirstCause (due_in (stack_of stack.old.items))
+    ensures taken { IsAtLine wholes.now (stack_of (table_in wholes.now) stack.old.items) line.now lines.now
+        → IfOk result (λ next. TakesLine (reading_of wholes.now (stack_of (table_in wholes.now) stack.old.items)) line.now
+        (onward wholes.now.lacking (table_in wholes.now) (state_of (table_in wholes.now) next stack.new.items))) }
+    ensures fault { IsAtLine wholes.now (stack_of (table_in wholes.now) stack.old.items) line.now lines.now
+        → IfErr result (IsFirstCause (reading (reading_of wholes.now (stack_of (table_in wholes.now) stack.old.items)))
         (Some (record { bytes = line.now; ended = true }))) }
 {
-    let head = read_head(alloc, line, stack.len(), texts)?;
+    let depth = stack.len() + wholes.around();
+    let head = match read_head(alloc, line, depth, wholes.depths.as_slice(), texts) {
+        Ok(head) => head,
+        Err(cause) => return Err(fault_of_head(cause, wholes, stack.as_slice(), lines)),
+    };
+    if completes(&head, stack.as_slice()) {
+        check_tree(wholes, stack.as_slice(), whole_number(&head), lines)?;
+    }
     match take_head(alloc, head, stack) {
         Ok(next) => Ok(next),
         Err(_) => Err(Cause::OutOfMemory),
@@ -52,11 +115,12 @@ fn take_key_line<'a>(
     alloc: Global,
     line: &'a str,
     map: OpenMap<'a>,
+    wholes: &Wholes<'_>,
     stack: &mut Vec<Frame<'a>>,
 ) -> Result<(), Cause>
-    ensures taken { IfOk result (λ _. TakesLine (inside_map map.entry stack.old.items) line.now
-        (going (stack_of stack.new.items))) }
-    ensures fault { IfErr result (IsFirstCause (key_due map.entry.pairs)
+    ensures taken { IfOk result (λ _. TakesLine (reading_of wholes.now (inside_map (table_in wholes.now) map.entry stack.old.items)) line.now
+        (onward wholes.now.lacking (table_in wholes.now) (going (stack_of (table_in wholes.now) stack.new.items)))) }
+    ensures fault { IfErr result (IsFirstCause (reading (reading_of wholes.now (inside_map (table_in wholes.now) map.entry stack.old.items)))
         (Some (record { bytes = line.now; ended = true }))) }
 {
     let argument = read_key_argument(line)?;
@@ -67,64 +131,139 @@ fn take_key_line<'a>(
 fn take_line<'a>(
     alloc: Global,
     line: &'a str,
+    lines: &[u8],
     due: Due<'a>,
+    wholes: &Wholes<'_>,
     texts: &mut SharedTexts,
     stack: &mut Vec<Frame<'a>>,
 ) -> Result<Next<'a>, Cause>
-    requires { AreOpen (open_at due stack.old.items) }
-    ensures taken { IfOk result (λ next. TakesLine (open_at due.entry stack.old.items) line.now
-        (state_of next stack.new.items)) }
-    ensures fault { IfErr result (IsFirstCause (due_in (open_at due.entry stack.old.items))
+    ensures taken { IsAtLine wholes.now (open_at (table_in wholes.now) due.entry stack.old.items) line.now lines.now
+        → IfOk result (λ next. TakesLine (reading_of wholes.now (open_at (table_in wholes.now) due.entry stack.old.items)) line.now
+        (onward wholes.now.lacking (table_in wholes.now) (state_of (table_in wholes.now) next stack.new.items))) }
+    ensures fault { IsAtLine wholes.now (open_at (table_in wholes.now) due.entry stack.old.items) line.now lines.now
+        → IfErr result (IsFirstCause (reading (reading_of wholes.now (open_at (table_in wholes.now) due.entry stack.old.items)))
         (Some (record { bytes = line.now; ended = true }))) }
 {
     match due {
-        Due::Head => take_head_line(alloc, line, texts, stack),
+        Due::Head => take_head_line(alloc, line, lines, wholes, texts, stack),
         Due::Key(map) => {
-            take_key_line(alloc, line, map, stack)?;
+            take_key_line(alloc, line, map, wholes, stack)?;
             Ok(Next::Due(Due::Head))
         }
     }
 }
 
-/// Returns the document with this root, if there is nothing after its text. `line` is the number of the line after the
-/// text.
-fn end_document(root: Node, rest: Lines<'_>, line: u64) -> Result<Document, TextRefusal>
-    requires document { IsDocument (node_tree root) }
-    requires line { line ≡ length (items (node_tree root)) + 1 }
-    ensures document { IfOk result (λ document. text_of
-        (node_tree root) ++ rest.entry ≡ text_of document) }
-    ensures fault { IfErr result (λ refusal. FirstFault
-        (text_of (node_tree root) ++ rest.entry) refusal.line refusal.cause) }
+/// Returns the next line, whose number is `line`, and the rest after it.
+fn next_line<'a>(rest: Lines<'a>, line: u64) -> Result<(&'a str, Lines<'a>), TextRefusal>
+    ensures piece { IfOk result (λ next. slice_get (pieces_of rest.entry) 0 ≡ Some
+        (record { bytes = next.0.now; ended = true })) }
+    ensures parts { IfOk result (λ next. rest.entry ≡ next.0.now ++ 10 ∷ next.1) }
+    ensures line { IfErr result (λ refusal. refusal.line ≡ line) }
+    ensures fault { IfErr result (λ refusal. (due : grammar_due.Due) → due ≢ nothing_more
+        → IsFirstOf (HasDueCause due (slice_get (pieces_of rest.entry) 0)) refusal.cause) }
+    ensures early { IfErr result (λ refusal. rank refusal.cause < 3) }
 {
-    match rest.fault_after() {
-        None => Ok(Document::of_root(root)),
-        Some(cause) => Err(TextRefusal { line, cause }),
+    match rest.next_line() {
+        Ok(next) => Ok(next),
+        Err(cause) => Err(TextRefusal { line, cause }),
     }
 }
 
+/// Reads the line of the number of wholes, if the text begins with one, and returns the number and the rest of the text.
+fn read_header(text: &[u8]) -> Result<(u64, Lines<'_>), TextRefusal>
+    ensures none { IfOk result (λ read. read.0 ≡ 0 → (read.1 ≡ text.now) × ((rest : List ℕ) → text.now ≢ codes "wholes " ++ rest)) }
+    ensures some { IfOk result (λ read. 0 < read.0 → text.now ≡ spelled (wholes_item read.0) ++ 10 ∷ read.1) }
+    ensures fault { IfErr result (λ refusal. FirstFault text.now refusal.line refusal.cause) }
+{
+    let lines = Lines::new(text);
+    if after_prefix(text, b"wholes ".as_slice()).is_none() {
+        return Ok((0, lines));
+    }
+    let (line, rest) = next_line(lines, 1)?;
+    let count = match after_prefix(line.as_bytes(), b"wholes ".as_slice()) {
+        Some(digits) => read_count(digits),
+        None => None,
+    };
+    match count {
+        Some(count) if count > 0 => Ok((count, rest)),
+        _ => Err(TextRefusal {
+            line: 1,
+            cause: Cause::BadNumber,
+        }),
+    }
+}
+
+/// Returns the document with this root, if there is nothing after its text. `line` is the number of the line after the
+/// text.
+fn end_document(
+    wholes: Wholes<'_>,
+    root: Node,
+    rest: Lines<'_>,
+    line: u64,
+) -> Result<Document, TextRefusal>
+    requires document { IsDocument (node_tree (table_in wholes) root) }
+    requires wholes { wholes_of (node_tree (table_in wholes) root) ≡ table_in wholes }
+    requires line { line ≡ length (document_items (node_tree (table_in wholes) root)) + 1 }
+    ensures document { IfOk result (λ document. text_of
+        (node_tree (table_in wholes.entry) root) ++ rest.entry ≡ text_of document) }
+    ensures fault { IfErr result (λ refusal. FirstFault
+        (text_of (node_tree (table_in wholes.entry) root) ++ rest.entry) refusal.line refusal.cause) }
+{
+    if let Some(cause) = rest.fault_after() {
+        return Err(TextRefusal { line, cause });
+    }
+    let entries = match wholes.entries.len() {
+        0 => None,
+        _ => Some(wholes.entries),
+    };
+    Ok(Document::of_parts(entries, root))
+}
+
+/// Returns the bytes of a text from `begin` up to `end`.
+fn part(text: &[u8], begin: usize, end: usize) -> &[u8]
+    requires begin { begin ≤ end }
+    requires end { end ≤ length text.now }
+    ensures { result.now ≡ drop begin (take end text.now) }
+{
+    &text[begin..end]
+}
+
 /// Returns the document with this text. The time and the memory are in proportion to the text, except for the
-/// comparisons of keys and of shared texts. No memory is reserved by a count in the text.
+/// comparisons of keys, of shared texts and of wholes. No memory is reserved by a count in the text.
 pub fn read_text(alloc: Global, text: &[u8]) -> Result<Document, TextRefusal>
     ensures document { IfOk result (λ document. text.now ≡ text_of document) }
     ensures fault { IfErr result (λ refusal. FirstFault text.now refusal.line refusal.cause) }
 {
+    let (count, mut rest) = read_header(text)?;
+    let mut wholes = Wholes::new(alloc, count);
     let mut stack = Vec::new(alloc);
     let mut texts = SharedTexts::new(alloc);
     let mut next = Next::Due(Due::Head);
-    let mut rest = Lines::new(text);
-    let mut line: u64 = 1;
+    let mut begin = text.len() - rest.len();
+    let mut line: u64 = if count > 0 { 2 } else { 1 };
     loop {
         let due = match next {
             Next::Due(due) => due,
-            Next::Done(root) => return end_document(root, rest, line),
+            Next::Done(root) => return end_document(wholes, root, rest, line),
         };
-        let (bytes, after) = match rest.next_line() {
-            Ok(parts) => parts,
+        let (bytes, after) = next_line(rest, line)?;
+        let lines = part(text, begin, text.len() - after.len());
+        let taken = match take_line(alloc, bytes, lines, due, &wholes, &mut texts, &mut stack) {
+            Ok(taken) => taken,
             Err(cause) => return Err(TextRefusal { line, cause }),
         };
-        next = match take_line(alloc, bytes, due, &mut texts, &mut stack) {
-            Ok(next) => next,
-            Err(cause) => return Err(TextRefusal { line, cause }),
+        next = match taken {
+            Next::Due(due) => Next::Due(due),
+            Next::Done(root) if wholes.lacking == 0 => Next::Done(root),
+            Next::Done(tree) => {
+                if wholes.add(tree, lines).is_err() {
+                    let cause = Cause::OutOfMemory;
+                    return Err(TextRefusal { line, cause });
+                }
+                stack.clear();
+                begin = text.len() - after.len();
+                Next::Due(Due::Head)
+            }
         };
         rest = after;
         line += 1;

@@ -3,7 +3,7 @@ use crate::sections::{Section, first_line};
 use archive_shape_writing::{Error, Writer, write_three_pieces};
 use cabinet_text::{Cause, Document, Line, LineRefusal, TextRefusal, answer, read_line, read_text};
 use cabinet_text_bytes::Decimal;
-use cabinet_text_writing::{write_bad, write_outcome};
+use cabinet_text_nodes::{write_bad, write_outcome};
 use std::alloc::Global;
 
 fn name_of(cause: Cause) -> &'static [u8] {
@@ -17,7 +17,10 @@ fn name_of(cause: Cause) -> &'static [u8] {
         Cause::KeyRepeated => b"KeyRepeated",
         Cause::UnknownHead => b"UnknownHead",
         Cause::BadNumber => b"BadNumber",
+        Cause::UnknownWhole => b"UnknownWhole",
         Cause::TooDeep => b"TooDeep",
+        Cause::RepeatedWhole => b"RepeatedWhole",
+        Cause::WholeOrder => b"WholeOrder",
         Cause::LineAfterEnd => b"LineAfterEnd",
         Cause::OutOfMemory => b"OutOfMemory",
     }

@@ -7,3 +7,5 @@ mod lines;
 mod nodes;
 #[cfg(test)]
 mod reading;
+#[cfg(test)]
+mod wholes;

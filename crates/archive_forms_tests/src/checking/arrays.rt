@@ -11,10 +11,6 @@ fn arrays_refuse_the_first_bad_element(rt: HostRuntime) {
         (*b"\x01\x07\0\x09\x02\x08", Err(Error::InvalidTag)),
     ];
     for (bytes, result) in rows {
-        assert_eq!(rt;
-            check_alone::<[ArchivedOption<u8>; 3]>(rt.alloc(), &bytes, 0, 0),
-            result,
-            "{bytes:?}"
-        );
+        assert!(rt; check_alone::<[ArchivedOption<u8>; 3]>(rt.alloc(), &bytes, 0, 0) == result);
     }
 }

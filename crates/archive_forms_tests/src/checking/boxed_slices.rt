@@ -14,11 +14,7 @@ fn boxes_of_truth_values(rt: HostRuntime) {
         (*b"\x02\0\0\0\xfc\xff\xff\xff\0\0\0\0", Ok(())),
     ];
     for (bytes, result) in rows {
-        assert_eq!(rt;
-            check_alone::<ArchivedBoxedSlice<bool>>(rt.alloc(), &bytes, 4, 1),
-            result,
-            "{bytes:?}"
-        );
+        assert!(rt; check_alone::<ArchivedBoxedSlice<bool>>(rt.alloc(), &bytes, 4, 1) == result);
     }
 }
 
@@ -53,10 +49,6 @@ fn boxes_of_texts(rt: HostRuntime) {
         ),
     ];
     for (bytes, most, result) in rows {
-        assert_eq!(rt;
-            check_alone::<ArchivedBoxedStr>(rt.alloc(), &bytes, 8, most),
-            result,
-            "{bytes:?}"
-        );
+        assert!(rt; check_alone::<ArchivedBoxedStr>(rt.alloc(), &bytes, 8, most) == result);
     }
 }

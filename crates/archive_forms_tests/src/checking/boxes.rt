@@ -40,10 +40,8 @@ fn boxes_of_a_number(rt: HostRuntime) {
         ),
     ];
     for (bytes, pos, most, result) in rows {
-        assert_eq!(rt;
-            check_alone::<ArchivedBox<ArchivedI32>>(rt.alloc(), &bytes, pos, most),
-            result,
-            "{bytes:?}"
+        assert!(rt;
+            check_alone::<ArchivedBox<ArchivedI32>>(rt.alloc(), &bytes, pos, most) == result
         );
     }
 }
@@ -62,10 +60,9 @@ fn boxes_in_boxes(rt: HostRuntime) {
         ),
     ];
     for (bytes, pos, most, result) in rows {
-        assert_eq!(rt;
-            check_alone::<ArchivedBox<ArchivedBox<ArchivedI32>>>(rt.alloc(), &bytes, pos, most),
-            result,
-            "{bytes:?}"
+        assert!(rt;
+            check_alone::<ArchivedBox<ArchivedBox<ArchivedI32>>>(rt.alloc(), &bytes, pos, most)
+                == result
         );
     }
 }

@@ -13,10 +13,8 @@ fn results_at_the_greater_alignment(rt: HostRuntime) {
         (*b"\x02\0\0\0\x01\0\0\0", Err(Error::InvalidTag)),
     ];
     for (bytes, result) in rows {
-        assert_eq!(rt;
-            check_alone::<ArchivedResult<bool, ArchivedChar>>(rt.alloc(), &bytes, 0, 0),
-            result,
-            "{bytes:?}"
+        assert!(rt;
+            check_alone::<ArchivedResult<bool, ArchivedChar>>(rt.alloc(), &bytes, 0, 0) == result
         );
     }
 }

@@ -24,10 +24,9 @@ fn tuples_of_four_refuse_the_first_bad_field(rt: HostRuntime) {
         ),
     ];
     for (bytes, result) in rows {
-        assert_eq!(rt;
-            check_alone::<ArchivedTuple4<u8, ArchivedBox<u8>, bool, u8>>(rt.alloc(), &bytes, 4, 1),
-            result,
-            "{bytes:?}"
+        assert!(rt;
+            check_alone::<ArchivedTuple4<u8, ArchivedBox<u8>, bool, u8>>(rt.alloc(), &bytes, 4, 1)
+                == result
         );
     }
 }

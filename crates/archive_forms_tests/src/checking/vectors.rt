@@ -26,11 +26,7 @@ fn vectors_of_two_numbers(rt: HostRuntime) {
         ),
     ];
     for (bytes, most, result) in rows {
-        assert_eq!(rt;
-            check_alone::<ArchivedVec<ArchivedU16>>(rt.alloc(), &bytes, 4, most),
-            result,
-            "{bytes:?}"
-        );
+        assert!(rt; check_alone::<ArchivedVec<ArchivedU16>>(rt.alloc(), &bytes, 4, most) == result);
     }
 }
 
@@ -49,10 +45,8 @@ fn sizes_of_long_vectors(rt: HostRuntime) {
         ),
     ];
     for (bytes, error) in rows {
-        assert_eq!(rt;
-            check_alone::<ArchivedVec<ArchivedU128>>(rt.alloc(), &bytes, 0, 1),
-            Err(error),
-            "{bytes:?}"
+        assert!(rt;
+            check_alone::<ArchivedVec<ArchivedU128>>(rt.alloc(), &bytes, 0, 1) == Err(error)
         );
     }
 }

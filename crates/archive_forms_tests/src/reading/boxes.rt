@@ -12,7 +12,7 @@ fn value_of_a_box_stands_at_its_offset(rt: HostRuntime) -> Result<(), Fail> {
     ];
     for (mut bytes, target) in rows {
         let boxed = checked::<ArchivedBox<ArchivedU16>>(rt.alloc(), &bytes, 8)?;
-        assert_eq!(rt; ArchivedBox::get(boxed).pos(), target, "{bytes:?}");
+        assert!(rt; ArchivedBox::get(boxed).pos() == target);
         let value = ArchivedBox::<ArchivedU16>::get_seal(Seal::new(&mut bytes, 8));
         assert!(rt; value.pos() == target);
     }

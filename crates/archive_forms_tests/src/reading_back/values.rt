@@ -11,10 +11,9 @@ fn results_are_read_back(rt: HostRuntime) {
         (*b"\x01\0\0\0\x07\0\0\0", Ok(Err(7))),
     ];
     for (bytes, result) in rows {
-        assert_eq!(rt;
-            read_back::<Result<u32, u8>, ArchivedResult<ArchivedU32, u8>>(rt.alloc(), &bytes, 0, 0),
-            result,
-            "{bytes:?}"
+        assert!(rt;
+            read_back::<Result<u32, u8>, ArchivedResult<ArchivedU32, u8>>(rt.alloc(), &bytes, 0, 0)
+                == result
         );
     }
 }

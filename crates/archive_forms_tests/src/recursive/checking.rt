@@ -13,11 +13,7 @@ fn lists_of_lists(rt: HostRuntime) {
         (three, 16, 1, Err(Error::ExceededMaximumSubtreeDepth)),
     ];
     for (bytes, pos, most, result) in rows {
-        assert_eq!(rt;
-            check_alone::<ArchivedList>(rt.alloc(), &bytes, pos, most),
-            result,
-            "{pos} {most}"
-        );
+        assert!(rt; check_alone::<ArchivedList>(rt.alloc(), &bytes, pos, most) == result);
     }
 }
 
@@ -29,10 +25,9 @@ fn lists_that_lead_to_themselves_or_behind_themselves_are_refused(rt: HostRuntim
         (*b"\x01\0\0\0\x04\0\0\0\x01\0\0\0\xf4\xff\xff\xff", 8),
     ];
     for (bytes, pos) in rows {
-        assert_eq!(rt;
-            check_alone::<ArchivedList>(rt.alloc(), &bytes, pos, 9),
-            Err(Error::InvalidSubtreePointer { size: 8 }),
-            "{pos}"
+        assert!(rt;
+            check_alone::<ArchivedList>(rt.alloc(), &bytes, pos, 9)
+                == Err(Error::InvalidSubtreePointer { size: 8 })
         );
     }
 }

@@ -48,7 +48,7 @@ fn texts_by_their_own_bytes(rt: HostRuntime) {
         ),
     ];
     for (own, most, result) in rows {
-        assert_eq!(rt; check_alone(alloc, &own, 0, most), result, "{own:?}");
+        assert!(rt; check_alone(alloc, &own, 0, most) == result);
     }
     assert!(rt; check_alone(alloc, b".\xc3\xa9\xff\xff\xff\xff\xff\xff", 1, 0) == Ok(()));
 }

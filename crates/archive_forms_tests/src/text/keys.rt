@@ -23,7 +23,7 @@ fn keys_inline(rt: HostRuntime) -> Result<(), Fail> {
         ("World", false, Ordering::Greater),
     ];
     for (query, same, order) in rows {
-        assert_eq!(rt; compared(&world, query), (same, order), "{query}");
+        assert!(rt; compared(&world, query) == (same, order));
     }
     Ok(())
 }
@@ -40,7 +40,7 @@ fn keys_out_of_line(rt: HostRuntime) -> Result<(), Fail> {
         ("", false, Ordering::Greater),
     ];
     for (query, same, order) in rows {
-        assert_eq!(rt; compared(&hello, query), (same, order), "{query}");
+        assert!(rt; compared(&hello, query) == (same, order));
     }
     Ok(())
 }

@@ -30,7 +30,7 @@ fn leaves_of_one_byte(rt: HostRuntime) {
         (0xff, Err(Error::InvalidTag)),
     ];
     for (byte, result) in rows {
-        assert_eq!(rt; check_alone::<bool>(rt.alloc(), &[byte]), result, "{byte}");
+        assert!(rt; check_alone::<bool>(rt.alloc(), &[byte]) == result);
     }
     let alloc = rt.alloc();
     assert!(rt; check_alone::<u8>(alloc, &[0]) == Ok(()));

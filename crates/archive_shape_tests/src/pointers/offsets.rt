@@ -17,7 +17,7 @@ fn differences(rt: HostRuntime) -> Result<(), Fail> {
         (HALF, 0, Ok(isize::MIN)),
         (0, HALF - 1, Ok(isize::MAX)),
     ] {
-        assert_eq!(rt; signed_offset(from, to), want, "from {from} to {to}");
+        assert!(rt; signed_offset(from, to) == want);
     }
     Ok(())
 }
@@ -36,8 +36,8 @@ fn offsets_of_one_byte(rt: HostRuntime) -> Result<(), Fail> {
     ] {
         let signed = signed.ok_or(Error::IsizeOverflow);
         let unsigned = unsigned.ok_or(Error::IsizeOverflow);
-        assert_eq!(rt; i8::from_isize(offset), signed, "offset {offset}");
-        assert_eq!(rt; u8::from_isize(offset), unsigned, "offset {offset}");
+        assert!(rt; i8::from_isize(offset) == signed);
+        assert!(rt; u8::from_isize(offset) == unsigned);
     }
     Ok(())
 }

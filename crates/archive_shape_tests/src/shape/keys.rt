@@ -25,8 +25,8 @@ fn keys_are_compared_with_queries(rt: HostRuntime) {
     ];
     let key = Ref::<ArchivedU32>::new(&bytes, 1);
     for (query, same, order) in rows {
-        assert_eq!(rt; compare_number(&bytes, 1, query), order, "{query}");
-        assert_eq!(rt; ArchivedU32::same(&key, &query), same, "{query}");
+        assert!(rt; compare_number(&bytes, 1, query) == order);
+        assert!(rt; ArchivedU32::same(&key, &query) == same);
     }
     let signed = Ref::<ArchivedI32>::new(&[0xff; 4], 0);
     assert!(rt; ArchivedI32::same(&signed, &-1));

@@ -20,9 +20,8 @@ use super::{Count, RunCause};
 use crate::opened::Opened;
 use archive_hash_probing::Scan;
 use archive_shape_writing::{Error, Writer};
-use cabinet_text_nodes::{Line, LineRefusal, SetAnswer};
+use cabinet_text_nodes::{Line, LineRefusal, SetAnswer, write_bad, write_outcome};
 use cabinet_text_reading::read_line;
-use cabinet_text_writing::{write_bad, write_outcome};
 use std::alloc::{AllocError, Global};
 
 /// Returns the line that bytes say, or `None` if they are no line.

@@ -19,7 +19,7 @@ use crate::maps::{KeptMap, OrderedMap};
 use archive_forms_values::ArchivedString;
 use archive_shape::Ref;
 use archive_shape_writing::{Error, Writer};
-use cabinet_text_writing::{write_key, write_keys_head};
+use cabinet_text_nodes::{write_key, write_keys_head};
 
 /// Writes each of the keys.
 fn write_each<'a, W: Writer, I: Iterator<Item = Ref<'a, ArchivedString>>>(

@@ -20,8 +20,7 @@ use archive_hash_probing::Scan;
 use archive_shape::Ref;
 use archive_shape_writing::{Error, Writer};
 use cabinet_archived::{ArchivedKind, ArchivedNode};
-use cabinet_text_nodes::{Asked, Line};
-use cabinet_text_writing::{answer_missing, answer_wrong, write_head};
+use cabinet_text_nodes::{Asked, Line, answer_missing, answer_wrong, write_head};
 
 /// Writes the head of a node as the answer.
 fn answer_head<W: Writer>(node: Ref<'_, ArchivedNode>, writer: &mut W) -> Result<Asked, Error>

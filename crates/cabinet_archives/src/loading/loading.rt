@@ -20,5 +20,5 @@ pub fn load(alloc: Global, bytes: &[u8]) -> Result<Document, AllocError>
 {
     let root = Ref::<ArchivedNode>::new(bytes, root_position::<ArchivedNode>(bytes.len()));
     let root = load_node(alloc, root, 0, &mut LoadedTexts::new(alloc))?;
-    Ok(Document::of_root(root))
+    Ok(Document::of_parts(None, root))
 }

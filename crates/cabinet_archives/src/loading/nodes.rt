@@ -1,5 +1,5 @@
 //! The nodes of archives as nodes of documents.
-ghost use Rattle.std.specs.Prelude.{◌≡◌, IfOk};
+ghost use Rattle.std.specs.Prelude.{◌≡◌, [], IfOk};
 ghost use Rattle.archive_shape.specs.ShapeLayout.Shape.Shape.{option, box, vector};
 ghost use Rattle.archive_shape.specs.ShapeLayout.Shape.Pointee.{sized};
 ghost use Rattle.cabinet_archived.specs.Documents.Denotes.{tagged_value};
@@ -33,7 +33,7 @@ fn load_option(
     requires there { HasTree (tagged_value 4) (option (box (sized node_shape))) KnowsNode maybe.bytes.now maybe.pos outer }
     requires kept { AreReadOf maybe.bytes.now texts.old }
     ensures tree { IfOk result (λ node. OfTree (tagged_value 4) (option (box (sized node_shape))) KnowsNode
-        maybe.entry.bytes.now maybe.entry.pos (λ t. node_tree node ≡ t)) }
+        maybe.entry.bytes.now maybe.entry.pos (λ t. node_tree [] node ≡ t)) }
     ensures keeps { IfOk result (λ _. AreReadOf maybe.entry.bytes.now texts.new) }
 {
     match ArchivedOption::as_ref(maybe) {
@@ -56,7 +56,7 @@ fn load_list(
     requires there { HasTree (tagged_value 5) (vector node_shape) KnowsNode list.bytes.now list.pos outer }
     requires kept { AreReadOf list.bytes.now texts.old }
     ensures tree { IfOk result (λ node. OfTree (tagged_value 5) (vector node_shape) KnowsNode
-        list.entry.bytes.now list.entry.pos (λ t. node_tree node ≡ t)) }
+        list.entry.bytes.now list.entry.pos (λ t. node_tree [] node ≡ t)) }
     ensures keeps { IfOk result (λ _. AreReadOf list.entry.bytes.now texts.new) }
 {
     let elements = ArchivedVec::as_slice(list);
@@ -80,7 +80,7 @@ fn load_ordered(
     requires there { HasTree (tagged_value 6) map_shape knows_pairs map.bytes.now map.pos outer }
     requires kept { AreReadOf map.bytes.now texts.old }
     ensures tree { IfOk result (λ node. OfTree (tagged_value 6) map_shape knows_pairs
-        map.entry.bytes.now map.entry.pos (λ t. node_tree node ≡ t)) }
+        map.entry.bytes.now map.entry.pos (λ t. node_tree [] node ≡ t)) }
     ensures keeps { IfOk result (λ _. AreReadOf map.entry.bytes.now texts.new) }
 {
     let mut pairs = BTreeMap::new(alloc);
@@ -102,7 +102,7 @@ fn load_hashed(
     requires there { HasTree (tagged_value 7) table_shape knows_pairs map.bytes.now map.pos outer }
     requires kept { AreReadOf map.bytes.now texts.old }
     ensures tree { IfOk result (λ node. OfTree (tagged_value 7) table_shape knows_pairs
-        map.entry.bytes.now map.entry.pos (λ t. node_tree node ≡ t)) }
+        map.entry.bytes.now map.entry.pos (λ t. node_tree [] node ≡ t)) }
     ensures keeps { IfOk result (λ _. AreReadOf map.entry.bytes.now texts.new) }
 {
     let mut pairs = BTreeMap::new(alloc);
@@ -124,7 +124,7 @@ fn load_kept(
     requires there { HasTree (tagged_value 8) index_shape knows_pairs map.bytes.now map.pos outer }
     requires kept { AreReadOf map.bytes.now texts.old }
     ensures tree { IfOk result (λ node. OfTree (tagged_value 8) index_shape knows_pairs
-        map.entry.bytes.now map.entry.pos (λ t. node_tree node ≡ t)) }
+        map.entry.bytes.now map.entry.pos (λ t. node_tree [] node ≡ t)) }
     ensures keeps { IfOk result (λ _. AreReadOf map.entry.bytes.now texts.new) }
 {
     // The entries lie in the bytes, so their number is no larger than the archive.
@@ -146,7 +146,7 @@ pub(crate) fn load_node(
 ) -> Result<Node, AllocError>
     requires there { HasTree (λ v. v) node_shape KnowsNode node.bytes.now node.pos outer }
     requires kept { AreReadOf node.bytes.now texts.old }
-    ensures tree { IfOk result (λ loaded. OfDocument node.entry.bytes.now node.entry.pos (λ t. node_tree loaded ≡ t)) }
+    ensures tree { IfOk result (λ loaded. OfDocument node.entry.bytes.now node.entry.pos (λ t. node_tree [] loaded ≡ t)) }
     ensures keeps { IfOk result (λ _. AreReadOf node.entry.bytes.now texts.new) }
 {
     match ArchivedNode::kind(node) {

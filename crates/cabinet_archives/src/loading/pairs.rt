@@ -1,5 +1,5 @@
 //! The pairs of a map that is loaded.
-ghost use Rattle.std.specs.Prelude.{◌≡◌, ℕ, List, IfOk, ⊤};
+ghost use Rattle.std.specs.Prelude.{◌≡◌, ℕ, List, [], IfOk, ⊤};
 ghost use Rattle.archive_shape.specs.ShapeLayout.Shape.Shape.{text};
 ghost use Rattle.archive_forms_values.specs.FormsLaws.Text.{IsText};
 ghost use Rattle.archive_forms_values.specs.Parts.{HasValue};
@@ -21,7 +21,7 @@ pub(crate) fn add_pair(
 ) -> Result<(), AllocError>
     requires { HasValue text (λ _. ⊤) key.bytes.now key.pos }
     ensures { IfOk result (λ _. (k : List ℕ) × IsText key.entry.bytes.now key.entry.pos k
-        × (node_pairs pairs.new.entries ≡ added k (node_tree node) (node_pairs pairs.old.entries))) }
+        × (node_pairs [] pairs.new.entries ≡ added k (node_tree [] node) (node_pairs [] pairs.old.entries))) }
 {
     let key = String::from_str(alloc, ArchivedString::as_str(key))?;
     pairs.insert(key, node)?;
@@ -37,7 +37,7 @@ pub(crate) fn push_pair(
 ) -> Result<(), AllocError>
     requires { HasValue text (λ _. ⊤) key.bytes.now key.pos }
     ensures { IfOk result (λ _. (k : List ℕ) × IsText key.entry.bytes.now key.entry.pos k
-        × (node_pairs pairs.new.items ≡ appended k (node_tree node) (node_pairs pairs.old.items))) }
+        × (node_pairs [] pairs.new.items ≡ appended k (node_tree [] node) (node_pairs [] pairs.old.items))) }
 {
     let key = String::from_str(alloc, ArchivedString::as_str(key))?;
     pairs.push((key, node))?;

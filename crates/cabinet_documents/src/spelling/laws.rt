@@ -6,8 +6,8 @@ pub fn node_spells()
     ensures { NodeSpells }
 {}
 
-/// The value that is written for a document denotes it, with the pairs of its hashed maps in the
-/// order of first fit.
+/// The value that is written for a document without wholes denotes it, with the pairs of its hashed
+/// maps in the order of first fit.
 pub fn value_denotes()
     ensures { ValueDenotes }
 {}

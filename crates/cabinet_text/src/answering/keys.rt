@@ -1,20 +1,19 @@
 //! Writes the keys of maps.
-ghost use Rattle.std.specs.Prelude.{◌≡◌, ◌-◌, ◌^◌, ◌<◌, length};
+ghost use Rattle.std.specs.Prelude.{◌≡◌, ◌-◌, ◌^◌, ◌<◌, [], length};
 ghost use Rattle.std.specs.List.{filter};
 ghost use Rattle.archive_shape_writing.specs.Writing.{Writes};
 ghost use Rattle.cabinet_text_grammar.specs.Answering.{keys_in, keys_are, lies_within, spelled_keys, spelled_answer};
 ghost use Rattle.cabinet_text_nodes.specs.View.{node_pairs};
 
 use archive_shape_writing::{Error, Writer};
-use cabinet_text_nodes::Node;
-use cabinet_text_writing::{write_key, write_keys_head};
+use cabinet_text_nodes::{Node, write_key, write_keys_head};
 use std::collections::BTreeMap;
 
 /// Writes each key of an ordered map.
 fn write_each<W: Writer>(map: &BTreeMap<String, Node>, writer: &mut W) -> Result<(), Error>
     requires { W.failures writer.old < 2 ^ 64 - 1 }
     ensures { Writes W.Writer writer.old writer.new
-        (spelled_keys (keys_in (node_pairs map.now.entries))) result }
+        (spelled_keys (keys_in (node_pairs [] map.now.entries))) result }
 {
     for (key, _) in map {
         write_key(key.as_str(), writer)?;
@@ -26,7 +25,7 @@ fn write_each<W: Writer>(map: &BTreeMap<String, Node>, writer: &mut W) -> Result
 fn write_each_kept<W: Writer>(pairs: &[(String, Node)], writer: &mut W) -> Result<(), Error>
     requires { W.failures writer.old < 2 ^ 64 - 1 }
     ensures { Writes W.Writer writer.old writer.new
-        (spelled_keys (keys_in (node_pairs pairs.now))) result }
+        (spelled_keys (keys_in (node_pairs [] pairs.now))) result }
 {
     for (key, _) in pairs {
         write_key(key.as_str(), writer)?;
@@ -41,7 +40,7 @@ pub(crate) fn write_keys<W: Writer>(
 ) -> Result<(), Error>
     requires { W.failures writer.old < 2 ^ 64 - 1 }
     ensures { Writes W.Writer writer.old writer.new
-        (spelled_answer (keys_are (keys_in (node_pairs map.now.entries)))) result }
+        (spelled_answer (keys_are (keys_in (node_pairs [] map.now.entries)))) result }
 {
     write_keys_head(map.len() as u64, writer)?;
     write_each(map, writer)?;
@@ -55,7 +54,7 @@ pub(crate) fn write_kept_keys<W: Writer>(
 ) -> Result<(), Error>
     requires { W.failures writer.old < 2 ^ 64 - 1 }
     ensures { Writes W.Writer writer.old writer.new
-        (spelled_answer (keys_are (keys_in (node_pairs pairs.now)))) result }
+        (spelled_answer (keys_are (keys_in (node_pairs [] pairs.now)))) result }
 {
     write_keys_head(pairs.len() as u64, writer)?;
     write_each_kept(pairs, writer)?;
@@ -72,7 +71,7 @@ fn is_within(key: &str, low: &str, high: &str) -> bool
 /// Returns the number of keys that are at or above the first bound and below the second.
 fn count_within(map: &BTreeMap<String, Node>, low: &str, high: &str) -> usize
     ensures { result ≡ length (filter (lies_within low.now high.now)
-        (keys_in (node_pairs map.now.entries))) }
+        (keys_in (node_pairs [] map.now.entries))) }
 {
     let mut count = 0;
     for (key, _) in map {
@@ -92,7 +91,7 @@ fn write_each_within<W: Writer>(
 ) -> Result<(), Error>
     requires { W.failures writer.old < 2 ^ 64 - 1 }
     ensures { Writes W.Writer writer.old writer.new
-        (spelled_keys (filter (lies_within low.now high.now) (keys_in (node_pairs map.now.entries)))) result }
+        (spelled_keys (filter (lies_within low.now high.now) (keys_in (node_pairs [] map.now.entries)))) result }
 {
     for (key, _) in map {
         if is_within(key.as_str(), low, high) {
@@ -110,7 +109,7 @@ pub(crate) fn write_keys_within<W: Writer>(
     writer: &mut W,
 ) -> Result<(), Error>
     requires { W.failures writer.old < 2 ^ 64 - 1 }
-    ensures { Writes W.Writer writer.old writer.new (spelled_answer (keys_are (filter (lies_within low.now high.now) (keys_in (node_pairs map.now.entries))))) result }
+    ensures { Writes W.Writer writer.old writer.new (spelled_answer (keys_are (filter (lies_within low.now high.now) (keys_in (node_pairs [] map.now.entries))))) result }
 {
     write_keys_head(count_within(map, low, high) as u64, writer)?;
     write_each_within(map, low, high, writer)?;

@@ -1,6 +1,7 @@
 //! Answers questions about documents.
-ghost use Rattle.std.specs.Prelude.{◌≡◌, ◌-◌, ◌^◌, ◌<◌, ◌++◌, IfOk, codes};
+ghost use Rattle.std.specs.Prelude.{◌≡◌, ◌-◌, ◌^◌, ◌<◌, ◌++◌, List, IfOk, codes};
 ghost use Rattle.archive_shape_writing.specs.Writing.{Writes};
+ghost use Rattle.cabinet_text_grammar.specs.Tree.{Tree};
 ghost use Rattle.cabinet_text_grammar.specs.Answering as grammar;
 ghost use Rattle.cabinet_text_grammar.specs.Answering.{spelled_answer, keys_of, keys_within};
 ghost use Rattle.cabinet_text_nodes.specs.Answers.{Tells};
@@ -8,18 +9,16 @@ ghost use Rattle.cabinet_text_nodes.specs.Lines.{IsQuestion};
 ghost use Rattle.cabinet_text_nodes.specs.View.{node_tree, line_of};
 
 use crate::answering::keys::{write_kept_keys, write_keys, write_keys_within};
-use crate::answering::walk::node_at;
 use archive_shape_writing::{Error, Writer};
-use cabinet_text_nodes::{Asked, Document, Line, Node};
-use cabinet_text_writing::{answer_missing, answer_wrong, write_head};
+use cabinet_text_nodes::{Asked, Document, Line, Node, answer_missing, answer_wrong, write_head};
 
 /// Writes the head of a node.
 fn answer_head<W: Writer>(node: &Node, writer: &mut W) -> Result<Asked, Error>
     requires { W.failures writer.old < 2 ^ 64 - 1 }
-    ensures written { Writes W.Writer writer.old writer.new
-        (spelled_answer (grammar.head (grammar.head_of (node_tree node.now)))) result }
-    ensures asked { IfOk result (λ asked. Tells asked
-        (grammar.head (grammar.head_of (node_tree node.now)))) }
+    ensures written { (table : List Tree) → Writes W.Writer writer.old writer.new
+        (spelled_answer (grammar.head (grammar.head_of (node_tree table node.now)))) result }
+    ensures asked { (table : List Tree) → IfOk result (λ asked. Tells asked
+        (grammar.head (grammar.head_of (node_tree table node.now)))) }
 {
     write_head(node.head(), writer)?;
     Ok(Asked::Answered)
@@ -28,9 +27,10 @@ fn answer_head<W: Writer>(node: &Node, writer: &mut W) -> Result<Asked, Error>
 /// Writes the keys of a node, or the answer that it has none in an order.
 fn answer_keys<W: Writer>(node: &Node, writer: &mut W) -> Result<Asked, Error>
     requires { W.failures writer.old < 2 ^ 64 - 1 }
-    ensures written { Writes W.Writer writer.old writer.new
-        (spelled_answer (keys_of (node_tree node.now))) result }
-    ensures asked { IfOk result (λ asked. Tells asked (keys_of (node_tree node.now))) }
+    ensures written { (table : List Tree) → Writes W.Writer writer.old writer.new
+        (spelled_answer (keys_of (node_tree table node.now))) result }
+    ensures asked { (table : List Tree) → IfOk result (λ asked. Tells asked
+        (keys_of (node_tree table node.now))) }
 {
     match node {
         Node::Ordered(map) => {
@@ -54,10 +54,10 @@ fn answer_range<W: Writer>(
     writer: &mut W,
 ) -> Result<Asked, Error>
     requires { W.failures writer.old < 2 ^ 64 - 1 }
-    ensures written { Writes W.Writer writer.old writer.new
-        (spelled_answer (keys_within low.now high.now (node_tree node.now))) result }
-    ensures asked { IfOk result (λ asked. Tells asked
-        (keys_within low.now high.now (node_tree node.now))) }
+    ensures written { (table : List Tree) → Writes W.Writer writer.old writer.new
+        (spelled_answer (keys_within low.now high.now (node_tree table node.now))) result }
+    ensures asked { (table : List Tree) → IfOk result (λ asked. Tells asked
+        (keys_within low.now high.now (node_tree table node.now))) }
 {
     match node {
         Node::Ordered(map) => {
@@ -81,7 +81,7 @@ pub fn answer<W: Writer>(document: &Document, line: &Line, writer: &mut W) -> Re
         Line::Get(path) | Line::Keys(path) => path,
         Line::Range { path, .. } | Line::Set { path, .. } => path,
     };
-    let Some(node) = node_at(document.root(), path) else {
+    let Some(node) = document.node_at(path) else {
         return answer_missing(writer);
     };
     match line {

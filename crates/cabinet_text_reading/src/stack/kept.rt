@@ -105,6 +105,20 @@ impl<'a> KeptPairs<'a> {
 }
 
 impl<'a> KeptKeyed<'a> {
+    /// Returns the number of pairs before the last key.
+    pub fn len(&self) -> usize
+        ensures { result ≡ length self.now.0 }
+    {
+        self.pairs.len()
+    }
+
+    /// Returns the pairs before the last key, in their order.
+    pub fn pairs(&self) -> &[(String, Node)]
+        ensures { result.now ≡ self.now.0 }
+    {
+        self.pairs.as_slice()
+    }
+
     /// Adds the node of the last key, which completes the next pair.
     pub fn with_node(self, node: Node) -> Result<KeptPairs<'a>, AllocError>
         ensures { IfOk result (λ pairs. pairs ≡ self.entry.0 ++ (self.entry.1, node) ∷ []) }

@@ -1,8 +1,8 @@
 //! The pairs of a map up to now, and the key of the next pair.
-ghost use Rattle.std.specs.Prelude.{◌≡◌, ◌++◌, [], ◌∷◌, IfOk, string_bytes};
+ghost use Rattle.std.specs.Prelude.{length, ◌≡◌, ◌++◌, List, [], ◌∷◌, IfOk, string_bytes};
 ghost use Rattle.cabinet_text_grammar.specs.Frame.{keys_after};
 ghost use Rattle.cabinet_text_grammar.specs.Keys.{MayFollow};
-ghost use Rattle.cabinet_text_grammar.specs.Tree.{ArePairs};
+ghost use Rattle.cabinet_text_grammar.specs.Tree.{Tree, ArePairs};
 ghost use Rattle.cabinet_text_nodes.specs.View.{node_pairs};
 ghost use Rattle.cabinet_text_reading.specs.View.{kind_of, entries_of, keyed_kind, keyed_entries, key_of};
 
@@ -21,13 +21,25 @@ pub enum Keyed<'a> {
 }
 
 impl<'a> Keyed<'a> {
+    /// Returns the number of pairs before the key.
+    pub fn len(&self) -> usize
+        ensures { result ≡ length (keyed_entries self.now) }
+    {
+        match self {
+            Keyed::Ordered(pairs, _) => pairs.len(),
+            Keyed::Hashed(pairs, _) => pairs.len(),
+            Keyed::Kept(keyed) => keyed.len(),
+        }
+    }
+
     /// Adds the node of the key, which completes the next pair.
     pub fn with_node(self, node: Node) -> Result<Pairs<'a>, AllocError>
-        requires pairs { ArePairs (keyed_kind self) [] (node_pairs (keyed_entries self)) }
-        requires follows { MayFollow (keyed_kind self) (keys_after [] (node_pairs (keyed_entries self)))
-            (string_bytes (key_of self)) }
         ensures kind { IfOk result (λ pairs. kind_of pairs ≡ keyed_kind self.entry) }
-        ensures pairs { IfOk result (λ pairs. entries_of pairs
+        ensures pairs { (table : List Tree) → ArePairs (keyed_kind self.entry) []
+            (node_pairs table (keyed_entries self.entry))
+            → MayFollow (keyed_kind self.entry) (keys_after [] (node_pairs table (keyed_entries self.entry)))
+            (string_bytes (key_of self.entry))
+            → IfOk result (λ pairs. entries_of pairs
             ≡ keyed_entries self.entry ++ (key_of self.entry, node) ∷ []) }
     {
         match self {

@@ -1,14 +1,16 @@
 //! Takes heads and keys into the innermost container.
 ghost use Rattle.std.specs.Prelude.{◌≡◌, ℕ, ◌<◌, List, [], Some, IfOk, IfErr, OnErr, string_bytes, vec_len};
 ghost use Rattle.cabinet_text_bytes.specs.Words.{IsEscaped};
-ghost use Rattle.cabinet_text_grammar.specs.Due.{Admits};
-ghost use Rattle.cabinet_text_grammar.specs.Fault.{IsFirstCause};
+ghost use Rattle.cabinet_text_grammar.specs.Due.{AdmitsHead, Admits};
+ghost use Rattle.cabinet_text_grammar.specs.Fault.{HasDueCause};
 ghost use Rattle.cabinet_text_grammar.specs.Frame.{AreOpen};
 ghost use Rattle.cabinet_text_grammar.specs.Item.{key_item, map_item};
 ghost use Rattle.cabinet_text_grammar.specs.Memory.{TakesMemory};
 ghost use Rattle.cabinet_text_grammar.specs.Spelling.{escaped};
+ghost use Rattle.cabinet_text_grammar.specs.Tree.{Tree};
 ghost use Rattle.cabinet_text_grammar.specs.Machine.{going, plug, step};
 ghost use Rattle.cabinet_text_nodes.specs.View.{node_tree, item_of};
+ghost use Rattle.cabinet_text_reading.specs.Causes.{IsFirstOf};
 ghost use Rattle.cabinet_text_reading.specs.Told.{key_line};
 ghost use Rattle.cabinet_text_reading.specs.View.{kind_of, entries_of, key_due, stack_of, inside_map, state_of};
 
@@ -21,18 +23,18 @@ use cabinet_text_nodes::{Head, Leaf, Node};
 use std::alloc::{AllocError, Global};
 use std::collections::BTreeMap;
 
-/// Puts a whole node into the innermost container. A list that stays open after it is changed in place by `put_in`.
-/// Here each container is taken from the stack, and a container that is full is a whole node itself.
+/// Puts a complete node into the innermost container. A list that stays open after it is changed in place by `put_in`.
+/// Here each container is taken from the stack, and a container that is full is a complete node itself.
 fn close_with<'a>(
     alloc: Global,
-    whole: Node,
+    complete: Node,
     stack: &mut Vec<Frame<'a>>,
 ) -> Result<Next<'a>, AllocError>
-    requires { AreOpen (stack_of stack.old.items) }
-    ensures { IfOk result (λ next. state_of next stack.new.items ≡ plug (node_tree whole)
-        (stack_of stack.old.items)) }
+    ensures { (table : List Tree) (around : ℕ) → AreOpen table around (stack_of table stack.old.items)
+        → IfOk result (λ next. state_of table next stack.new.items
+        ≡ plug (node_tree table complete) (stack_of table stack.old.items)) }
 {
-    let mut node = whole;
+    let mut node = complete;
     while let Some(frame) = stack.pop() {
         match frame {
             Frame::Maybe => {
@@ -60,27 +62,27 @@ fn close_with<'a>(
     Ok(Next::Done(node))
 }
 
-/// Puts a whole node into the innermost container. A container that it fills is a whole node itself. Where none is open
-/// no memory is taken.
+/// Puts a complete node into the innermost container. A container that it fills is a complete node itself. Where none is
+/// open no memory is taken.
 fn put_in<'a>(
     alloc: Global,
-    whole: Node,
+    complete: Node,
     stack: &mut Vec<Frame<'a>>,
 ) -> Result<Next<'a>, AllocError>
-    requires { AreOpen (stack_of stack.old.items) }
-    ensures next { IfOk result (λ next. state_of next stack.new.items ≡ plug (node_tree whole)
-        (stack_of stack.old.items)) }
+    ensures next { (table : List Tree) (around : ℕ) → AreOpen table around (stack_of table stack.old.items)
+        → IfOk result (λ next. state_of table next stack.new.items
+        ≡ plug (node_tree table complete) (stack_of table stack.old.items)) }
     ensures memory { OnErr result (0 < vec_len stack.old) }
 {
     let Some(frame) = stack.last_mut() else {
-        return Ok(Next::Done(whole));
+        return Ok(Next::Done(complete));
     };
     match frame {
         Frame::List { count, nodes } if nodes.len() as u64 + 1 < *count => {
-            nodes.push(whole)?;
+            nodes.push(complete)?;
             Ok(Next::Due(Due::Head))
         }
-        _ => close_with(alloc, whole, stack),
+        _ => close_with(alloc, complete, stack),
     }
 }
 
@@ -90,9 +92,10 @@ pub fn take_head<'a>(
     head: Head,
     stack: &mut Vec<Frame<'a>>,
 ) -> Result<Next<'a>, AllocError>
-    requires { AreOpen (stack_of stack.old.items) }
-    ensures next { IfOk result (λ next. state_of next stack.new.items ≡ step (stack_of stack.old.items)
-        (item_of head)) }
+    ensures next { (table : List Tree) (around depth : ℕ)
+        → AreOpen table around (stack_of table stack.old.items) → AdmitsHead table depth (item_of head)
+        → IfOk result (λ next. state_of table next stack.new.items
+        ≡ step table (stack_of table stack.old.items) (item_of head)) }
     ensures memory { OnErr result (TakesMemory (vec_len stack.old) (item_of head)) }
 {
     match head {
@@ -116,6 +119,7 @@ pub fn take_head<'a>(
         Head::Ordered(count) => open_map(alloc, count, Pairs::Ordered(BTreeMap::new(alloc)), stack),
         Head::Hashed(count) => open_map(alloc, count, Pairs::Hashed(BTreeMap::new(alloc)), stack),
         Head::Kept(count) => open_map(alloc, count, Pairs::Kept(KeptPairs::new(alloc)), stack),
+        Head::Whole(number) => put_in(alloc, Node::Whole(number), stack),
     }
 }
 
@@ -126,10 +130,10 @@ fn open_map<'a>(
     pairs: Pairs<'a>,
     stack: &mut Vec<Frame<'a>>,
 ) -> Result<Next<'a>, AllocError>
-    requires opened { AreOpen (stack_of stack.old.items) }
-    requires none { entries_of pairs ≡ [] }
-    ensures next { IfOk result (λ next. state_of next stack.new.items ≡ step (stack_of stack.old.items)
-        (map_item (kind_of pairs.entry) count)) }
+    requires { entries_of pairs ≡ [] }
+    ensures next { (table : List Tree) (around : ℕ) → AreOpen table around (stack_of table stack.old.items)
+        → IfOk result (λ next. state_of table next stack.new.items
+        ≡ step table (stack_of table stack.old.items) (map_item (kind_of pairs.entry) count)) }
     ensures memory { OnErr result ((count ≡ 0) × (0 < vec_len stack.old)) }
 {
     if count == 0 {
@@ -149,9 +153,10 @@ pub fn take_key<'a>(
     requires { IsEscaped argument.now }
     ensures taken { IfOk result (λ _. (k : List ℕ) × (argument.now ≡ escaped k)
         × Admits (key_due map.entry.pairs) (key_item k)
-        × (going (stack_of stack.new.items) ≡ step (inside_map map.entry stack.old.items) (key_item k))) }
-    ensures fault { IfErr result (IsFirstCause (key_due map.entry.pairs)
-        (Some (key_line argument.now))) }
+        × ((table : List Tree) → going (stack_of table stack.new.items)
+        ≡ step table (inside_map table map.entry stack.old.items) (key_item k))) }
+    ensures fault { IfErr result (IsFirstOf (HasDueCause (key_due map.entry.pairs)
+        (Some (key_line argument.now)))) }
 {
     let OpenMap { count, pairs } = map;
     let pairs = pairs.with_key(alloc, argument)?;

@@ -1,4 +1,4 @@
-use Rattle.std.proofs.Common.{rules, arith, ℕ, ◌+◌, ◌≤◌, length, refl, sym, ap, subst}
+use Rattle.std.proofs.Common.{rules, arith, ℕ, ◌+◌, ◌≤◌, [], length, refl, sym, ap, subst}
 use Rattle.archive_shape.specs.Bytes.{HasBytes, zeros}
 use Rattle.archive_forms_laws.proofs.Levels.{option_box_sized}
 use Rattle.archive_forms_writing.proofs.Options.{value_place, some_resolved, none_resolved}
@@ -25,7 +25,7 @@ returns c =
     let Q : ℕ → Type 0 = λ n. c.args.out.start + n ≤ length c.args.out.out.now in
     some_resolved boxed_shape (boxed_spelling node_spelling) (λ x r pos f. refl) 4 (value_place boxed_shape 4 refl (omega arith))
     c.args.out.out.now c.within-place.result.out.now c.resolve_from_raw_parts.new.out.0 _ c.args.out.start c.args.out.pos c.within-place.result.start c.within-place.result.pos (tree_within c.args.content.now) c.args.resolver
-    (node_tree c.in-Some.field-0.value) c.in-Some-resolver.kept c.resolve_from_raw_parts.result (ap tree_within c.in-Some.is) c.in-Some-resolver.is
+    (node_tree [] c.in-Some.field-0.value) c.in-Some-resolver.kept c.resolve_from_raw_parts.result (ap tree_within c.in-Some.is) c.in-Some-resolver.is
     (subst Q (sym (option_box_sized node_shape)) c.requires.room) (subst P (sym (option_box_sized node_shape)) c.requires.blank)
     c.within-place.ensures.bytes c.within-place.ensures.start c.within-place.ensures.pos (search rules)
-    (box_resolved node_spelling (node_tree c.in-Some.field-0.value) c.in-Some-resolver.kept _ _ _ _ c.resolve_from_raw_parts.result c.resolve_from_raw_parts.ensures)
+    (box_resolved node_spelling (node_tree [] c.in-Some.field-0.value) c.in-Some-resolver.kept _ _ _ _ c.resolve_from_raw_parts.result c.resolve_from_raw_parts.ensures)

@@ -5,7 +5,7 @@ use Rattle.archive_forms_laws.specs.Pointers.{slice_spelling}
 use Rattle.archive_forms_writing.specs.Steps.{IsElement}
 use Rattle.cabinet_documents.specs.Node.{node_shape}
 use Rattle.cabinet_archived.specs.Archived.{archived_as}
-use Rattle.cabinet_archived.proofs.Written.{list_written, list_stopped, pairs_written, table_written, element_below, pair_below, only_element, text_wrote, shared_wrote, shared_refused, maybe_wrote, maybe_refused, list_wrote, list_refused, ordered_wrote, ordered_refused, hashed_wrote, hashed_refused, index_written, kept_wrote, kept_refused}
+use Rattle.cabinet_archived.proofs.Written.{list_written, list_stopped, pairs_written, table_written, element_below, pair_below, only_element, text_wrote, shared_wrote, shared_refused, maybe_wrote, maybe_refused, list_wrote, list_refused, ordered_wrote, ordered_refused, hashed_wrote, hashed_refused, index_written, kept_wrote, kept_refused, whole_refused}
 use Rattle.cabinet_archived.proofs.writing.+serialize.Goals as goal
 
 pub serialize_list-serialize_slice_with_each-written-requires-clause-takes : goal.serialize_list-serialize_slice_with_each-written-requires-clause-takes
@@ -118,3 +118,8 @@ pub serialize_node-returns-in-Err-serialize_kept : goal.serialize_node-returns-i
 serialize_node-returns-in-Err-serialize_kept g t c =
     let m : WriterMembers g.row.S.Denot = record { known = g.S.Registry.known; pos = g.S.Positional.pos; OBSERVABLE = g.S.Writer.OBSERVABLE; COUNTS = g.S.Writer.COUNTS; contents = g.S.Writer.contents; failures = g.S.Writer.failures; last_error = g.S.Writer.last_error } in
     kept_refused m c.args.node.node.now c.args.serializer.now c.serialize_kept.new.serializer c.in-Kept.pairs c.in-Err-serialize_kept.e c.in-Kept.is c.in-Err-serialize_kept.ensures
+
+pub serialize_node-returns-in-Whole : goal.serialize_node-returns-in-Whole
+serialize_node-returns-in-Whole g t c =
+    let m : WriterMembers g.row.S.Denot = record { known = g.S.Registry.known; pos = g.S.Positional.pos; OBSERVABLE = g.S.Writer.OBSERVABLE; COUNTS = g.S.Writer.COUNTS; contents = g.S.Writer.contents; failures = g.S.Writer.failures; last_error = g.S.Writer.last_error } in
+    whole_refused m c.args.node.node.now c.args.serializer.now c.in-Whole.field-0 c.in-Whole.is

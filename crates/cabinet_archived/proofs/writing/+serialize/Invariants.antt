@@ -1,4 +1,4 @@
-use Rattle.std.proofs.Common.{◌+◌, ◌*◌}
+use Rattle.std.proofs.Common.{◌+◌, ◌*◌, []}
 use Rattle.cabinet_text_grammar.specs.Tree.{depth}
 use Rattle.cabinet_archived.specs.Archived.{most_within, most_in_pairs}
 use Rattle.cabinet_archived.proofs.Written.{depth_within}
@@ -6,13 +6,13 @@ use Rattle.cabinet_text_nodes.specs.View.{node_tree}
 use Rattle.cabinet_archived.proofs.writing.+serialize.Given as goal
 
 abbrev pub decreases-serialize_node : goal.decreases-serialize_node
-decreases-serialize_node g l = 3 * depth (node_tree l.node.node.now)
+decreases-serialize_node g l = 3 * depth (node_tree [] l.node.node.now)
 
 abbrev pub decreases-serialize_maybe : goal.decreases-serialize_maybe
 decreases-serialize_maybe g l = 3 * depth_within l.content.now + 2
 
 abbrev pub decreases-serialize_maybe-serialize_one_each : goal.decreases-serialize_maybe-serialize_one_each
-decreases-serialize_maybe-serialize_one_each g l = 3 * depth (node_tree l.inner.now.value) + 1
+decreases-serialize_maybe-serialize_one_each g l = 3 * depth (node_tree [] l.inner.now.value) + 1
 
 abbrev pub decreases-serialize_list : goal.decreases-serialize_list
 decreases-serialize_list g l = 3 * most_within l.nodes.now.items + 2

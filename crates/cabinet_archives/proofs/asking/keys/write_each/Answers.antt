@@ -1,7 +1,7 @@
 use Rattle.std.proofs.Common.{sym, subst}
 use Rattle.std.specs.Iterator.{AlwaysYields}
 use Rattle.std.proofs.lemmas.Result.{err_from_is_err_and}
-use Rattle.cabinet_text_writing.proofs.Pieces.{none_before, one_more, one_failed, all_written}
+use Rattle.cabinet_text_nodes.proofs.Pieces.{none_before, one_more, one_failed, all_written}
 use Rattle.cabinet_archives.specs.Keys.{YieldsTexts}
 use Rattle.cabinet_archives.proofs.KeysYielded.{all_left, next_left, none_left, texts_pieces}
 use Rattle.cabinet_archives.proofs.Texts.{text_is}

@@ -1,7 +1,7 @@
 use Rattle.std.proofs.Common.{List}
 use Rattle.archive_shape.specs.declared.references.refs.Ref.{Ref}
 use Rattle.archive_forms_values.specs.declared.text.string.ArchivedString.{ArchivedString}
-use Rattle.cabinet_text_writing.proofs.Pieces.{AreWrittenBefore}
+use Rattle.cabinet_text_nodes.proofs.Pieces.{AreWrittenBefore}
 use Rattle.cabinet_archives.proofs.KeysYielded.{AreLeft}
 use Rattle.cabinet_archives.proofs.Within.{key_piece}
 use Rattle.cabinet_archives.proofs.asking.keys.write_each.Given as goal

@@ -5,7 +5,7 @@ use Rattle.std.proofs.lemmas.Result.{err_from_is_err_and}
 use Rattle.archive_shape.specs.ShapeLayout.Shape.Shape.{text}
 use Rattle.archive_btree_walking.specs.Refs.{IsThere}
 use Rattle.cabinet_archived.specs.Documents.Node.{node_shape, KnowsNode}
-use Rattle.cabinet_text_writing.proofs.Pieces.{none_before, one_more, one_failed, all_written}
+use Rattle.cabinet_text_nodes.proofs.Pieces.{none_before, one_more, one_failed, all_written}
 use Rattle.cabinet_archives.proofs.Payloads.{text_has}
 use Rattle.cabinet_archives.proofs.Texts.{text_is}
 use Rattle.cabinet_archives.proofs.Within.{entry_piece, within_pieces}

@@ -1,5 +1,5 @@
 use Rattle.std.proofs.lemmas.Result.{err_from_is_err_and}
-use Rattle.cabinet_text_writing.proofs.Pieces.{keys_appended, keys_head_failed, keys_failed}
+use Rattle.cabinet_text_nodes.proofs.Pieces.{keys_appended, keys_head_failed, keys_failed}
 use Rattle.cabinet_archives.proofs.asking.keys.write_keys.Goals as goal
 
 pub returns-in_err-write_keys_head-clause-written : goal.returns-in_err-write_keys_head-clause-written

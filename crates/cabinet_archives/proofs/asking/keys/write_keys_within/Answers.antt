@@ -5,7 +5,7 @@ use Rattle.std.proofs.lemmas.Result.{err_from_is_err_and}
 use Rattle.archive_shape.specs.ShapeLayout.Content.{members}
 use Rattle.cabinet_text_nodes.specs.TextGrammar.Answering.{lies_within}
 use Rattle.cabinet_archived.specs.Documents.Table.{item_keys}
-use Rattle.cabinet_text_writing.proofs.Pieces.{keys_appended, keys_head_failed, keys_failed}
+use Rattle.cabinet_text_nodes.proofs.Pieces.{keys_appended, keys_head_failed, keys_failed}
 use Rattle.cabinet_archives.proofs.Within.{run_counted, within_counted}
 use Rattle.cabinet_archives.proofs.asking.keys.write_keys_within.Goals as goal
 

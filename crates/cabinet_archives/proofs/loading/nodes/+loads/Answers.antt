@@ -84,7 +84,7 @@ load_node-returns-in-Bool-clause-tree t c =
     let is = c.in-Bool.ensures in
     let leaf = leaf_tree c.args.node.bytes.now c.args.node.pos (tree.truth c.native_of.result) 0 truth (λ _. ⊤) c.in-Bool.value.pos (omega arith) is.2
     (λ w h. c.native_of.ensures w (subst (λ (b : Bor (List ℕ)). HeldAt truth (λ _. ⊤) b.now c.in-Bool.value.pos w) (sym is.0) h)) in
-    λ v u h d. node_tree-bool _ ∙ leaf v u h d
+    λ v u h d. node_tree-bool [] _ ∙ leaf v u h d
 
 pub load_node-returns-in-Int-clause-tree : goal.load_node-returns-in-Int-clause-tree
 load_node-returns-in-Int-clause-tree t c =
@@ -93,7 +93,7 @@ load_node-returns-in-Int-clause-tree t c =
     let same = to_z-of_z w64 n (record { sfits = c.native_of-in-Int.type_inv }) in
     let leaf = leaf_tree c.args.node.bytes.now c.args.node.pos (tree.number (to_z w64 (of_z w64 n))) 1 (number w64 true) (λ _. ⊤) c.in-Int.number.pos (omega arith) is.2
     (λ w h. ap integer same ∙ c.native_of-in-Int.ensures w (subst (λ (b : Bor (List ℕ)). HeldAt (number w64 true) (λ _. ⊤) b.now c.in-Int.number.pos w) (sym is.0) h)) in
-    λ v u h d. node_tree-int _ ∙ leaf v u h d
+    λ v u h d. node_tree-int [] _ ∙ leaf v u h d
 
 pub load_node-returns-in_ok-text-in-Text-clause-tree : goal.load_node-returns-in_ok-text-in-Text-clause-tree
 load_node-returns-in_ok-text-in-Text-clause-tree t c =
@@ -101,7 +101,7 @@ load_node-returns-in_ok-text-in-Text-clause-tree t c =
     let there = subst (λ (b : Bor (List ℕ)). IsText b.now c.in-Text.text.pos c.as_str.result.now) is.0 c.as_str.ensures in
     let leaf = leaf_tree c.args.node.bytes.now c.args.node.pos (tree.text c.as_str.result.now) 2 text (λ _. ⊤) c.in-Text.text.pos (omega arith) is.2
     (text_is (λ _. ⊤) c.args.node.bytes.now c.in-Text.text.pos c.as_str.result.now there) in
-    λ v u h d. node_tree-text _ ∙ ap (λ s. tree.leaf (tree.text s)) c.in_ok-text-in-Text.ensures.ok ∙ leaf v u h d
+    λ v u h d. node_tree-text [] _ ∙ ap (λ s. tree.leaf (tree.text s)) c.in_ok-text-in-Text.ensures.ok ∙ leaf v u h d
 
 pub load_node-returns-in_ok-read-in-Shared-clause-tree : goal.load_node-returns-in_ok-read-in-Shared-clause-tree
 load_node-returns-in_ok-read-in-Shared-clause-tree t c =
@@ -110,7 +110,7 @@ load_node-returns-in_ok-read-in-Shared-clause-tree t c =
     let shared = shared_tree c.args.node.bytes.now c.args.node.pos c.in-Shared.pointer.pos got.0 got.1 _ is.2
     (subst (λ (b : Bor (List ℕ)). IsRcStrAt false b.now c.in-Shared.pointer.pos got.0 got.1) is.0 got.2)
     (got.3 ∙ ap (λ (b : Bor (List ℕ)). window b.now got.0 got.1) is.0) in
-    λ v u h d. node_tree-shared _ ∙ shared v u h d
+    λ v u h d. node_tree-shared [] _ ∙ shared v u h d
 
 pub load_node-returns-in-Maybe-clause-tree : goal.load_node-returns-in-Maybe-clause-tree
 load_node-returns-in-Maybe-clause-tree t c =
@@ -161,14 +161,14 @@ load_option-returns-in_ok-new-in-Some-clause-tree t c =
     let says = c.in-Some.ensures in
     let maybe = c.args.maybe in
     let boxed = subst (λ (b : Bor (List ℕ)). IsBoxAt node_shape KnowsNode b.now c.in-Some.boxed.pos c.get.result.pos) says.0 c.get.ensures.value in
-    let loaded = loaded_as (node_tree c.in_ok-node-in-Some.node) (c.get.ensures.bytes ∙ says.0) refl c.in_ok-node-in-Some.ensures.tree in
-    let some = just_tree maybe.bytes.now says.2 says.1 boxed (node_tree c.in_ok-node-in-Some.node) loaded in
-    λ v u h d. node_tree-some _ ∙ ap (λ n. tree.just (node_tree n)) c.in_ok-new-in-Some.ensures.ok ∙ some v u h d
+    let loaded = loaded_as (node_tree [] c.in_ok-node-in-Some.node) (c.get.ensures.bytes ∙ says.0) refl c.in_ok-node-in-Some.ensures.tree in
+    let some = just_tree maybe.bytes.now says.2 says.1 boxed (node_tree [] c.in_ok-node-in-Some.node) loaded in
+    λ v u h d. node_tree-some [] _ ∙ ap (λ n. tree.just (node_tree [] n)) c.in_ok-new-in-Some.ensures.ok ∙ some v u h d
 
 pub load_option-returns-in-None-clause-tree : goal.load_option-returns-in-None-clause-tree
 load_option-returns-in-None-clause-tree t c =
     let nothing = nothing_tree c.args.maybe.bytes.now c.args.maybe.pos c.in-None.ensures in
-    λ v u h d. node_tree-none ∙ nothing v u h d
+    λ v u h d. node_tree-none [] ∙ nothing v u h d
 
 -- ---- lists
 
@@ -189,7 +189,7 @@ load_list-loop-index-preserved t c =
     let at = some_says _ _ c.get.result c.unwrap-element.result c.get.ensures c.unwrap-element.ensures in
     let bytes = at.1 ∙ c.as_slice-elements.ensures.bytes in
     let node = c.in_ok-load_node.field-0 in
-    let loaded = loaded_as (node_tree node) bytes (at.2 ∙ ap (λ n. c.as_slice-elements.result.pos + n * size_of node_shape) (sym c.loop-index.invariant.count)) c.in_ok-load_node.ensures.tree in
+    let loaded = loaded_as (node_tree [] node) bytes (at.2 ∙ ap (λ n. c.as_slice-elements.result.pos + n * size_of node_shape) (sym c.loop-index.invariant.count)) c.in_ok-load_node.ensures.tree in
     let count = c.loop-index.invariant.count in
     record {
       loaded =
@@ -203,7 +203,7 @@ pub load_list-returns-clause-tree : goal.load_list-returns-clause-tree
 load_list-returns-clause-tree t c =
     let whole = c.loop-index.invariant.count ∙ omega (arith, c.loop-index-test.false, c.len-index-end.ensures, c.loop-index.auto.index-end) in
     let list = list_tree c.args.list.bytes.now c.as_slice-elements.ensures.elements c.loop-index.nodes.items whole c.loop-index.invariant.loaded in
-    λ v u h d. node_tree-list _ ∙ list v u h d
+    λ v u h d. node_tree-list [] _ ∙ list v u h d
 
 -- ---- ordered maps
 
@@ -215,8 +215,8 @@ load_ordered-loop-key-init t c =
     record {
       there = subst (All (IsPairOf map.bytes (c.args.outer + 1))) (sym gives) (ordered_there map.bytes c.requires.there _ pairs);
       left =
-          subst (λ left. OfTree (tagged_value 6) map_shape knows_pairs map.bytes.now map.pos (AreLeft map.bytes ordered left (node_pairs c.new-pairs.result.entries))) (sym gives)
-          (subst (λ es. OfTree (tagged_value 6) map_shape knows_pairs map.bytes.now map.pos (AreLeft map.bytes ordered c.iter-key-items.result (node_pairs es))) (sym c.new-pairs.ensures.empty) (ordered_left map.bytes c.requires.there _ pairs));
+          subst (λ left. OfTree (tagged_value 6) map_shape knows_pairs map.bytes.now map.pos (AreLeft map.bytes ordered left (node_pairs [] c.new-pairs.result.entries))) (sym gives)
+          (subst (λ es. OfTree (tagged_value 6) map_shape knows_pairs map.bytes.now map.pos (AreLeft map.bytes ordered c.iter-key-items.result (node_pairs [] es))) (sym c.new-pairs.ensures.empty) (ordered_left map.bytes c.requires.there _ pairs));
       kept = c.requires.kept;
     }
 
@@ -242,12 +242,12 @@ load_ordered-loop-key-preserved t c =
     let added = c.in_ok-add_pair.ensures in
     record {
       there = later_pairs bytes steps there;
-      left = λ v u h d. left_on bytes steps there (c.loop-key.invariant.left v u h d) added.0 (node_tree c.in_ok-node.node) added.1 c.in_ok-node.ensures.tree added.2;
+      left = λ v u h d. left_on bytes steps there (c.loop-key.invariant.left v u h d) added.0 (node_tree [] c.in_ok-node.node) added.1 c.in_ok-node.ensures.tree added.2;
       kept = subst (λ (b : Bor (List ℕ)). AreReadOf b.now c.load_node.new.texts) pair.node_bytes c.in_ok-node.ensures.keeps;
     }
 
 pub load_ordered-returns-clause-tree : goal.load_ordered-returns-clause-tree
-load_ordered-returns-clause-tree t c = λ v u h d. node_tree-ordered _ ∙ left_none c.args.map.bytes c.in-None.ensures.steps.0 (c.loop-key.invariant.left v u h d)
+load_ordered-returns-clause-tree t c = λ v u h d. node_tree-ordered [] _ ∙ left_none c.args.map.bytes c.in-None.ensures.steps.0 (c.loop-key.invariant.left v u h d)
 
 -- ---- hashed maps
 
@@ -259,8 +259,8 @@ load_hashed-loop-key-init t c =
     record {
       there = subst (All (IsPairOf map.bytes (c.args.outer + 1))) (sym gives) (hashed_there map.bytes c.requires.there _ pairs);
       left =
-          subst (λ left. OfTree (tagged_value 7) table_shape knows_pairs map.bytes.now map.pos (AreLeft map.bytes hashed left (node_pairs c.new-pairs.result.entries))) (sym gives)
-          (subst (λ es. OfTree (tagged_value 7) table_shape knows_pairs map.bytes.now map.pos (AreLeft map.bytes hashed c.iter-key-items.result (node_pairs es))) (sym c.new-pairs.ensures.empty) (hashed_left map.bytes c.requires.there _ pairs));
+          subst (λ left. OfTree (tagged_value 7) table_shape knows_pairs map.bytes.now map.pos (AreLeft map.bytes hashed left (node_pairs [] c.new-pairs.result.entries))) (sym gives)
+          (subst (λ es. OfTree (tagged_value 7) table_shape knows_pairs map.bytes.now map.pos (AreLeft map.bytes hashed c.iter-key-items.result (node_pairs [] es))) (sym c.new-pairs.ensures.empty) (hashed_left map.bytes c.requires.there _ pairs));
       kept = c.requires.kept;
     }
 
@@ -286,12 +286,12 @@ load_hashed-loop-key-preserved t c =
     let added = c.in_ok-add_pair.ensures in
     record {
       there = later_pairs bytes steps there;
-      left = λ v u h d. left_on bytes steps there (c.loop-key.invariant.left v u h d) added.0 (node_tree c.in_ok-node.node) added.1 c.in_ok-node.ensures.tree added.2;
+      left = λ v u h d. left_on bytes steps there (c.loop-key.invariant.left v u h d) added.0 (node_tree [] c.in_ok-node.node) added.1 c.in_ok-node.ensures.tree added.2;
       kept = subst (λ (b : Bor (List ℕ)). AreReadOf b.now c.load_node.new.texts) pair.node_bytes c.in_ok-node.ensures.keeps;
     }
 
 pub load_hashed-returns-clause-tree : goal.load_hashed-returns-clause-tree
-load_hashed-returns-clause-tree t c = λ v u h d. node_tree-hashed _ ∙ left_none c.args.map.bytes c.in-None.ensures.steps.0 (c.loop-key.invariant.left v u h d)
+load_hashed-returns-clause-tree t c = λ v u h d. node_tree-hashed [] _ ∙ left_none c.args.map.bytes c.in-None.ensures.steps.0 (c.loop-key.invariant.left v u h d)
 
 -- ---- kept maps
 
@@ -303,8 +303,8 @@ load_kept-loop-key-init t c =
     record {
       there = subst (All (IsPairOf map.bytes (c.args.outer + 1))) (sym gives) (kept_there map.bytes c.requires.there _ pairs);
       left =
-          subst (λ left. OfTree (tagged_value 8) index_shape knows_pairs map.bytes.now map.pos (AreLeft map.bytes kept left (node_pairs c.in_ok-pairs.pairs.items))) (sym gives)
-          (subst (λ es. OfTree (tagged_value 8) index_shape knows_pairs map.bytes.now map.pos (AreLeft map.bytes kept c.iter-key-items.result (node_pairs es))) (sym c.in_ok-pairs.ensures.items) (kept_left map.bytes c.requires.there _ pairs));
+          subst (λ left. OfTree (tagged_value 8) index_shape knows_pairs map.bytes.now map.pos (AreLeft map.bytes kept left (node_pairs [] c.in_ok-pairs.pairs.items))) (sym gives)
+          (subst (λ es. OfTree (tagged_value 8) index_shape knows_pairs map.bytes.now map.pos (AreLeft map.bytes kept c.iter-key-items.result (node_pairs [] es))) (sym c.in_ok-pairs.ensures.items) (kept_left map.bytes c.requires.there _ pairs));
       kept = c.requires.kept;
     }
 
@@ -330,9 +330,9 @@ load_kept-loop-key-preserved t c =
     let appended = c.in_ok-push_pair.ensures in
     record {
       there = later_pairs bytes steps there;
-      left = λ v u h d. left_on bytes steps there (c.loop-key.invariant.left v u h d) appended.0 (node_tree c.in_ok-node.node) appended.1 c.in_ok-node.ensures.tree appended.2;
+      left = λ v u h d. left_on bytes steps there (c.loop-key.invariant.left v u h d) appended.0 (node_tree [] c.in_ok-node.node) appended.1 c.in_ok-node.ensures.tree appended.2;
       kept = subst (λ (b : Bor (List ℕ)). AreReadOf b.now c.load_node.new.texts) pair.node_bytes c.in_ok-node.ensures.keeps;
     }
 
 pub load_kept-returns-clause-tree : goal.load_kept-returns-clause-tree
-load_kept-returns-clause-tree t c = λ v u h d. node_tree-kept _ ∙ left_none c.args.map.bytes c.in-None.ensures.steps.0 (c.loop-key.invariant.left v u h d)
+load_kept-returns-clause-tree t c = λ v u h d. node_tree-kept [] _ ∙ left_none c.args.map.bytes c.in-None.ensures.steps.0 (c.loop-key.invariant.left v u h d)

@@ -1,4 +1,4 @@
-use Rattle.std.proofs.Common.{◌≡◌, ◌+◌, ◌*◌, ◌-◌, length}
+use Rattle.std.proofs.Common.{◌≡◌, ◌+◌, ◌*◌, ◌-◌, [], length}
 use Rattle.std.specs.Prelude.{All}
 use Rattle.cabinet_text_nodes.specs.TextGrammar.Keys.{ordered, hashed, kept}
 use Rattle.cabinet_text_nodes.specs.View.{node_pairs}
@@ -42,7 +42,7 @@ invariant-load_list-loop-index l = record {
 abbrev pub invariant-load_ordered-loop-key : goal.invariant-load_ordered-loop-key
 invariant-load_ordered-loop-key l = record {
   there : All (IsPairOf l.fn.map.bytes (l.fn.outer + 1)) l.key-iterator;
-  left : OfTree (tagged_value 6) map_shape knows_pairs l.fn.map.bytes.now l.fn.map.pos (AreLeft l.fn.map.bytes ordered l.key-iterator (node_pairs l.pairs.entries));
+  left : OfTree (tagged_value 6) map_shape knows_pairs l.fn.map.bytes.now l.fn.map.pos (AreLeft l.fn.map.bytes ordered l.key-iterator (node_pairs [] l.pairs.entries));
   kept : AreReadOf l.fn.map.bytes.now l.texts;
 }
 
@@ -50,7 +50,7 @@ invariant-load_ordered-loop-key l = record {
 abbrev pub invariant-load_hashed-loop-key : goal.invariant-load_hashed-loop-key
 invariant-load_hashed-loop-key l = record {
   there : All (IsPairOf l.fn.map.bytes (l.fn.outer + 1)) l.key-iterator;
-  left : OfTree (tagged_value 7) table_shape knows_pairs l.fn.map.bytes.now l.fn.map.pos (AreLeft l.fn.map.bytes hashed l.key-iterator (node_pairs l.pairs.entries));
+  left : OfTree (tagged_value 7) table_shape knows_pairs l.fn.map.bytes.now l.fn.map.pos (AreLeft l.fn.map.bytes hashed l.key-iterator (node_pairs [] l.pairs.entries));
   kept : AreReadOf l.fn.map.bytes.now l.texts;
 }
 
@@ -58,6 +58,6 @@ invariant-load_hashed-loop-key l = record {
 abbrev pub invariant-load_kept-loop-key : goal.invariant-load_kept-loop-key
 invariant-load_kept-loop-key l = record {
   there : All (IsPairOf l.fn.map.bytes (l.fn.outer + 1)) l.key-iterator;
-  left : OfTree (tagged_value 8) index_shape knows_pairs l.fn.map.bytes.now l.fn.map.pos (AreLeft l.fn.map.bytes kept l.key-iterator (node_pairs l.pairs.items));
+  left : OfTree (tagged_value 8) index_shape knows_pairs l.fn.map.bytes.now l.fn.map.pos (AreLeft l.fn.map.bytes kept l.key-iterator (node_pairs [] l.pairs.items));
   kept : AreReadOf l.fn.map.bytes.now l.texts;
 }

@@ -1,4 +1,4 @@
-use Rattle.std.proofs.Common.{ap, ◌∙◌, string_bytes, subst, sym, List}
+use Rattle.std.proofs.Common.{ap, ◌∙◌, string_bytes, subst, sym, List, []}
 use Rattle.std.specs.Prelude.{String, ⊤}
 use Rattle.std.specs.declared.alloc.Global.{Global}
 use Rattle.cabinet_text_nodes.specs.View.{node_pairs}
@@ -15,5 +15,5 @@ pub returns : goal.returns
 returns c = (
   string_bytes c.in_ok-key.key,
   subst (IsText c.args.key.bytes.now c.args.key.pos) (sym c.in_ok-key.ensures.ok) c.as_str.ensures,
-  ap (λ (es : List (String Global × Node)). node_pairs es) c.in_ok-insert.ensures.entries ∙ entry_added c.args.pairs.now.entries c.in_ok-key.key c.args.node,
+  ap (λ (es : List (String Global × Node)). node_pairs [] es) c.in_ok-insert.ensures.entries ∙ entry_added c.args.pairs.now.entries c.in_ok-key.key c.args.node,
 )

@@ -1,6 +1,6 @@
 use Rattle.std.proofs.lemmas.Result.{err_from_is_err_and}
 use Rattle.cabinet_text.proofs.Pieces.{key_piece, keys_pieces}
-use Rattle.cabinet_text_writing.proofs.Pieces.{one_more, one_failed, all_written}
+use Rattle.cabinet_text_nodes.proofs.Pieces.{one_more, one_failed, all_written}
 use Rattle.cabinet_text.proofs.answering.keys.write_each.Goals as goal
 
 pub returns-in_err-write_key : goal.returns-in_err-write_key

@@ -1,5 +1,5 @@
 use Rattle.cabinet_text.proofs.Pieces.{key_piece}
-use Rattle.cabinet_text_writing.proofs.Pieces.{AreWrittenBefore}
+use Rattle.cabinet_text_nodes.proofs.Pieces.{AreWrittenBefore}
 use Rattle.cabinet_text.proofs.answering.keys.write_each.Given as goal
 
 -- the keys before those that are left were written

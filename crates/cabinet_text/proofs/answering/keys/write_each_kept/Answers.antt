@@ -1,7 +1,7 @@
 use Rattle.std.proofs.lemmas.List.{take_all}
 use Rattle.std.proofs.lemmas.Result.{err_from_is_err_and}
 use Rattle.cabinet_text.proofs.Pieces.{key_piece, keys_pieces}
-use Rattle.cabinet_text_writing.proofs.Pieces.{failed_at}
+use Rattle.cabinet_text_nodes.proofs.Pieces.{failed_at}
 use Rattle.cabinet_text.proofs.answering.keys.write_each_kept.Goals as goal
 
 pub returns-in_err-write_key : goal.returns-in_err-write_key

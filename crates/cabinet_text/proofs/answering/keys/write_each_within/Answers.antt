@@ -1,7 +1,7 @@
 use Rattle.std.proofs.Common.{sym}
 use Rattle.std.proofs.lemmas.Result.{err_from_is_err_and}
 use Rattle.cabinet_text.proofs.Pieces.{piece_within, within_pieces, one_outside, one_inside, inside_failed}
-use Rattle.cabinet_text_writing.proofs.Pieces.{one_failed, all_written}
+use Rattle.cabinet_text_nodes.proofs.Pieces.{one_failed, all_written}
 use Rattle.cabinet_text.proofs.answering.keys.write_each_within.Goals as goal
 
 pub returns-in_err-write_key : goal.returns-in_err-write_key

@@ -1,20 +1,20 @@
-use Rattle.std.proofs.Common.{sym, ◌∙◌}
+use Rattle.std.proofs.Common.{sym, ◌∙◌, []}
 use Rattle.std.proofs.lemmas.Result.{err_from_is_err_and}
 use Rattle.cabinet_text_grammar.specs.Answering.{keys_in}
 use Rattle.cabinet_text_nodes.specs.View.{node_pairs}
 use Rattle.cabinet_text.proofs.Pieces.{keys_counted}
-use Rattle.cabinet_text_writing.proofs.Pieces.{keys_appended, keys_head_failed, keys_failed}
+use Rattle.cabinet_text_nodes.proofs.Pieces.{keys_appended, keys_head_failed, keys_failed}
 use Rattle.cabinet_text.proofs.answering.keys.write_keys.Goals as goal
 
 pub returns-in_err-write_keys_head : goal.returns-in_err-write_keys_head
 returns-in_err-write_keys_head g c =
     let p = err_from_is_err_and c.from_residual.result c.from_residual.ensures.1 in
-    rw (p.1, p.2) (keys_head_failed c.len.result (keys_in (node_pairs c.args.map.now.entries)) (keys_counted c.args.map.now.entries ∙ sym c.len.ensures.len) c.in_err-write_keys_head.ensures)
+    rw (p.1, p.2) (keys_head_failed c.len.result (keys_in (node_pairs [] c.args.map.now.entries)) (keys_counted c.args.map.now.entries ∙ sym c.len.ensures.len) c.in_err-write_keys_head.ensures)
 
 pub returns-in_err-write_each : goal.returns-in_err-write_each
 returns-in_err-write_each g c =
     let p = err_from_is_err_and c.from_residual-in_err-write_each.result c.from_residual-in_err-write_each.ensures.1 in
-    rw (p.1, p.2) (keys_failed c.len.result (keys_in (node_pairs c.args.map.now.entries)) (keys_counted c.args.map.now.entries ∙ sym c.len.ensures.len) c.in_ok-write_keys_head.ensures c.in_err-write_each.ensures)
+    rw (p.1, p.2) (keys_failed c.len.result (keys_in (node_pairs [] c.args.map.now.entries)) (keys_counted c.args.map.now.entries ∙ sym c.len.ensures.len) c.in_ok-write_keys_head.ensures c.in_err-write_each.ensures)
 
 pub returns : goal.returns
-returns g c = keys_appended c.write.new.self c.len.result (keys_in (node_pairs c.args.map.now.entries)) c.write.result (keys_counted c.args.map.now.entries ∙ sym c.len.ensures.len) c.in_ok-write_keys_head.ensures c.in_ok-write_each.ensures c.write.ensures
+returns g c = keys_appended c.write.new.self c.len.result (keys_in (node_pairs [] c.args.map.now.entries)) c.write.result (keys_counted c.args.map.now.entries ∙ sym c.len.ensures.len) c.in_ok-write_keys_head.ensures c.in_ok-write_each.ensures c.write.ensures

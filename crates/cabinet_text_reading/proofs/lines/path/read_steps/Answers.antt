@@ -1,4 +1,3 @@
-use Rattle.std.proofs.Common.{◌≡◌, [], ◌++◌, subst, ap, ◌∙◌, append-nil, rules}
 use Rattle.cabinet_text_grammar.specs.Line.{spelled_path}
 use Rattle.cabinet_text_nodes.specs.View.{path_of}
 use Rattle.cabinet_text_reading.proofs.Paths.{IsPath-word, All-step, spelled-step, step_refused, some_left, less_left}

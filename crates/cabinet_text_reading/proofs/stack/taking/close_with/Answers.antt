@@ -1,4 +1,4 @@
-use Rattle.std.proofs.Common.{◌∷◌, ◌∙◌, ap, sym, subst}
+use Rattle.std.proofs.Common.{◌≡◌, [], ◌∷◌, ◌∙◌, ap, sym, subst, rules}
 use Rattle.cabinet_text_grammar.specs.Frame as spec
 use Rattle.cabinet_text_grammar.specs.Frame.{AreOpen}
 use Rattle.cabinet_text_grammar.specs.Tree as tree
@@ -11,69 +11,65 @@ use Rattle.cabinet_text_reading.proofs.stack.taking.close_with.Goals as goal
 use Rattle.cabinet_text_nodes.proofs.Views.{node_tree-list, node_tree-some}
 
 pub loop-frame-preserved-in-Maybe : goal.loop-frame-preserved-in-Maybe
-loop-frame-preserved-in-Maybe c =
-    let i = c.loop-frame.invariant in
+loop-frame-preserved-in-Maybe c table around opens =
+    let i = c.loop-frame.invariant table around opens in
     let outer = c.pop.new.self.items in
-    let here = opened c.loop-frame.stack.items outer c.in-Some.frame frame.Maybe c.in-Some.ensures.items c.in-Maybe.is in
-    let are = subst AreOpen here i.are in
-    record {
-      same = ap (λ t. plug t (stack_of outer)) (node_tree-some c.in_ok-new-in-Maybe.field-0) ∙ ap (λ n. plug (tree.just (node_tree n)) (stack_of outer)) c.in_ok-new-in-Maybe.ensures.ok ∙ ap (plug (node_tree c.loop-frame.node)) (sym here) ∙ i.same;
-      are = are.2;
-    }
+    let here = opened table c.loop-frame.stack.items outer c.in-Some.frame frame.Maybe c.in-Some.ensures.items c.in-Maybe.is in
+    let are = subst (AreOpen table around) here i.1 in (
+      ap (λ t. plug t (stack_of table outer)) (node_tree-some table c.in_ok-new-in-Maybe.field-0) ∙ ap (λ n. plug (tree.just (node_tree table n)) (stack_of table outer)) c.in_ok-new-in-Maybe.ensures.ok ∙ ap (plug (node_tree table c.loop-frame.node)) (sym here) ∙ i.0,
+      are.2,
+    )
 
 pub loop-frame-preserved-then-len-count : goal.loop-frame-preserved-then-len-count
-loop-frame-preserved-then-len-count c =
-    let i = c.loop-frame.invariant in
+loop-frame-preserved-then-len-count c table around opens =
+    let i = c.loop-frame.invariant table around opens in
     let outer = c.pop.new.self.items in
-    let here = opened c.loop-frame.stack.items outer c.in-Some.frame (frame.List c.in-List.count c.in-List.nodes) c.in-Some.ensures.items c.in-List.is in
-    let are = subst AreOpen here i.are in
-    record {
-      same = ap (λ t. plug t (stack_of outer)) (node_tree-list c.push.new.self) ∙ list_full c.in-List.nodes.items c.push.new.self.items c.loop-frame.node c.in-List.count (stack_of outer) c.in_ok-push-in-List.ensures.items (counted_items c.push.new.self ∙ sym c.len.ensures ∙ c.if-len-count.true) ∙ ap (plug (node_tree c.loop-frame.node)) (sym here) ∙ i.same;
-      are = are.2;
-    }
+    let here = opened table c.loop-frame.stack.items outer c.in-Some.frame (frame.List c.in-List.count c.in-List.nodes) c.in-Some.ensures.items c.in-List.is in
+    let are = subst (AreOpen table around) here i.1 in (
+      ap (λ t. plug t (stack_of table outer)) (node_tree-list table c.push.new.self) ∙ list_full table c.in-List.nodes.items c.push.new.self.items c.loop-frame.node c.in-List.count (stack_of table outer) c.in_ok-push-in-List.ensures.items (counted_items c.push.new.self ∙ sym c.len.ensures ∙ c.if-len-count.true) ∙ ap (plug (node_tree table c.loop-frame.node)) (sym here) ∙ i.0,
+      are.2,
+    )
 
 pub returns-else-len-count : goal.returns-else-len-count
-returns-else-len-count c =
-    let i = c.loop-frame.invariant in
+returns-else-len-count c table around opens =
+    let i = c.loop-frame.invariant table around opens in
     let outer = c.pop.new.self.items in
-    let here = opened c.loop-frame.stack.items outer c.in-Some.frame (frame.List c.in-List.count c.in-List.nodes) c.in-Some.ensures.items c.in-List.is in
+    let here = opened table c.loop-frame.stack.items outer c.in-Some.frame (frame.List c.in-List.count c.in-List.nodes) c.in-Some.ensures.items c.in-List.is in
     let pushed = frame.List c.in-List.count c.push.new.self in
-    ap going (ap stack_of c.in_ok-push-in-List-2.ensures.items ∙ stack_of-push outer pushed)
-    ∙ list_more c.in-List.nodes.items c.push.new.self.items c.loop-frame.node c.in-List.count (stack_of outer) c.in_ok-push-in-List.ensures.items (λ e. c.if-len-count.false (c.len.ensures ∙ sym (counted_items c.push.new.self) ∙ e))
-    ∙ ap (plug (node_tree c.loop-frame.node)) (sym here)
-    ∙ i.same
-
-pub with_node-requires-clause-pairs : goal.with_node-requires-clause-pairs
-with_node-requires-clause-pairs c =
-    let here = opened c.loop-frame.stack.items c.pop.new.self.items c.in-Some.frame (frame.Value c.in-Value.count c.in-Value.pairs) c.in-Some.ensures.items c.in-Value.is in
-    (subst AreOpen here c.loop-frame.invariant.are).0.0.2
-
-pub with_node-requires-clause-follows : goal.with_node-requires-clause-follows
-with_node-requires-clause-follows c =
-    let here = opened c.loop-frame.stack.items c.pop.new.self.items c.in-Some.frame (frame.Value c.in-Value.count c.in-Value.pairs) c.in-Some.ensures.items c.in-Value.is in
-    (subst AreOpen here c.loop-frame.invariant.are).0.1.1
+    ap going (ap (stack_of table) c.in_ok-push-in-List-2.ensures.items ∙ stack_of-push table outer pushed)
+    ∙ list_more table c.in-List.nodes.items c.push.new.self.items c.loop-frame.node c.in-List.count (stack_of table outer) c.in_ok-push-in-List.ensures.items (λ e. c.if-len-count.false (c.len.ensures ∙ sym (counted_items c.push.new.self) ∙ e))
+    ∙ ap (plug (node_tree table c.loop-frame.node)) (sym here)
+    ∙ i.0
 
 pub loop-frame-preserved : goal.loop-frame-preserved
-loop-frame-preserved c =
-    let i = c.loop-frame.invariant in
+loop-frame-preserved c table around opens =
+    let i = c.loop-frame.invariant table around opens in
     let outer = c.pop.new.self.items in
     let old = c.in-Value.pairs in
     let pairs = c.in_ok-pairs-in-Value.pairs in
-    let here = opened c.loop-frame.stack.items outer c.in-Some.frame (frame.Value c.in-Value.count old) c.in-Some.ensures.items c.in-Value.is in
-    let are = subst AreOpen here i.are in
-    record {
-      same = ap (λ t. plug t (stack_of outer)) (c.into_node-node.ensures ∙ ap (λ kind. tree.map kind (node_pairs (entries_of pairs))) c.in_ok-pairs-in-Value.ensures.kind) ∙ pairs_full (keyed_kind old) (keyed_entries old) (entries_of pairs) (key_of old) c.loop-frame.node c.in-Value.count (stack_of outer) c.in_ok-pairs-in-Value.ensures.pairs (sym c.len-in-Value.ensures ∙ c.if-len-count-2.true) ∙ ap (plug (node_tree c.loop-frame.node)) (sym here) ∙ i.same;
-      are = are.2;
-    }
+    let here = opened table c.loop-frame.stack.items outer c.in-Some.frame (frame.Value c.in-Value.count old) c.in-Some.ensures.items c.in-Value.is in
+    let are = subst (AreOpen table around) here i.1 in
+    let more = c.in_ok-pairs-in-Value.ensures.pairs table are.0.0.2 are.0.1.1 in (
+      ap (λ t. plug t (stack_of table outer)) (c.into_node-node.ensures table ∙ ap (λ kind. tree.map kind (node_pairs table (entries_of pairs))) c.in_ok-pairs-in-Value.ensures.kind) ∙ pairs_full table (keyed_kind old) (keyed_entries old) (entries_of pairs) (key_of old) c.loop-frame.node c.in-Value.count (stack_of table outer) more (sym c.len-in-Value.ensures ∙ c.if-len-count-2.true) ∙ ap (plug (node_tree table c.loop-frame.node)) (sym here) ∙ i.0,
+      are.2,
+    )
 
 pub returns-else-len-count-2 : goal.returns-else-len-count-2
-returns-else-len-count-2 c =
-    let i = c.loop-frame.invariant in
+returns-else-len-count-2 c table around opens =
+    let i = c.loop-frame.invariant table around opens in
     let outer = c.pop.new.self.items in
     let old = c.in-Value.pairs in
     let pairs = c.in_ok-pairs-in-Value.pairs in
-    let here = opened c.loop-frame.stack.items outer c.in-Some.frame (frame.Value c.in-Value.count old) c.in-Some.ensures.items c.in-Value.is in
-    ap (λ kind. going (spec.at_key kind c.in-Value.count (node_pairs (entries_of pairs)) ∷ stack_of outer)) c.in_ok-pairs-in-Value.ensures.kind
-    ∙ pairs_more (keyed_kind old) (keyed_entries old) (entries_of pairs) (key_of old) c.loop-frame.node c.in-Value.count (stack_of outer) c.in_ok-pairs-in-Value.ensures.pairs (λ e. c.if-len-count-2.false (c.len-in-Value.ensures ∙ e))
-    ∙ ap (plug (node_tree c.loop-frame.node)) (sym here)
-    ∙ i.same
+    let here = opened table c.loop-frame.stack.items outer c.in-Some.frame (frame.Value c.in-Value.count old) c.in-Some.ensures.items c.in-Value.is in
+    let are = subst (AreOpen table around) here i.1 in
+    let more = c.in_ok-pairs-in-Value.ensures.pairs table are.0.0.2 are.0.1.1 in
+    ap (λ kind. going (spec.at_key kind c.in-Value.count (node_pairs table (entries_of pairs)) ∷ stack_of table outer)) c.in_ok-pairs-in-Value.ensures.kind
+    ∙ pairs_more table (keyed_kind old) (keyed_entries old) (entries_of pairs) (key_of old) c.loop-frame.node c.in-Value.count (stack_of table outer) more (λ e. c.if-len-count-2.false (c.len-in-Value.ensures ∙ e))
+    ∙ ap (plug (node_tree table c.loop-frame.node)) (sym here)
+    ∙ i.0
+
+pub returns : goal.returns
+returns c table around opens =
+    let i = c.loop-frame.invariant table around opens in
+    let none : c.loop-frame.stack.items ≡ [] = search rules in
+    sym (ap (λ fs. plug (node_tree table c.loop-frame.node) (stack_of table fs)) none) ∙ i.0

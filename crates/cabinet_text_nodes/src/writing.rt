@@ -1,0 +1,12 @@
+//! Writes texts of documents, and the lines of answers.
+mod answer;
+mod head;
+mod text;
+
+pub use answer::{
+    answer_missing, answer_wrong, write_bad, write_key, write_keys_head, write_missing,
+    write_outcome, write_wrong,
+};
+pub use head::{write_head, write_key_line};
+pub(crate) use text::write_node;
+pub use text::write_text;

@@ -1,5 +1,0 @@
-use Rattle.std.proofs.Common.{rules}
-use Rattle.cabinet_text_writing.proofs.answer.write_outcome.Goals as goal
-
-pub returns-in-Done : goal.returns-in-Done
-returns-in-Done g c = search rules

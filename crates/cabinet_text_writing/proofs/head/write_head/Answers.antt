@@ -1,5 +1,0 @@
-use Rattle.std.proofs.Common.{rules}
-use Rattle.cabinet_text_writing.proofs.head.write_head.Goals as goal
-
-pub returns-in-Shared : goal.returns-in-Shared
-returns-in-Shared g c = search rules

@@ -1,8 +1,0 @@
-use Rattle.std.proofs.Common.{◌++◌, codes}
-use Rattle.archive_shape_writing.proofs.Joined.{appends_after}
-use Rattle.cabinet_text_bytes.specs.TextGrammar.Spelling.{escaped}
-use Rattle.cabinet_text_writing.proofs.head.write_text_line.Goals as goal
-
-pub returns : goal.returns
-returns g c =
-    rw (← c.as_bytes.ensures.value) (appends_after c.write_escaped_line.new.writer (escaped c.as_bytes.result.now ++ codes "\n") c.write_escaped_line.result c.in_ok-write.ensures c.write_escaped_line.ensures)
