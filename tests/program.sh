@@ -5,10 +5,11 @@
 set -u
 . "$(dirname "$0")/steps.sh"
 . "$root/tests/bytes.sh"
+. "$root/tests/made.sh"
 
 # ---- the cases that differ in their texts alone
 
-# builds TEXT HEX: the archive of a text
+# builds TEXT HEX: the archive of a text, which is opened
 builds() {
     begin "the archive of: $1"
     text "$1\n"
@@ -16,6 +17,9 @@ builds() {
     prints "built $((${#2} / 2))\n"
     ends 0 ''
     holds a.cab "$2"
+    run run a.cab
+    prints ''
+    ends 0 ''
     finish
 }
 
@@ -90,6 +94,7 @@ long_line() {
 
 builds 'int 5' "$five"
 builds 'int -1' 0100000000000000ffffffffffffffff0000000000000000
+builds 'int -2' 0100000000000000feffffffffffffff0000000000000000
 builds 'int 9223372036854775807' 0100000000000000ffffffffffffff7f0000000000000000
 builds 'int -9223372036854775808' 010000000000000000000000000000800000000000000000
 builds 'bool true' 000100000000000000000000000000000000000000000000
@@ -100,6 +105,7 @@ builds "text 'a\\\\sb\\\\nc" 020000006120620a63ffffff000000000000000000000000
 
 builds 'list 0' 05000000fcffffff00000000000000000000000000000000
 builds 'list 2\nint 7\nint 19' "$seven$nineteen$two"
+builds 'list 2\nint 7\nint 20' "$seven$twenty$two"
 builds "list 2\ntext '\nbool true" 02000000ffffffffffffffff000000000000000000000000000100000000000000000000000000000000000000000000"$two"
 
 builds none "$none"
@@ -113,6 +119,11 @@ builds 'list 2\nsome\nint 5\nsome\nint 6' \
 builds "shared 'a" 610000000000000003000000f4ffffff01000000000000000000000000000000
 builds "list 2\nshared 'hello\\sworld!\nshared 'hello\\sworld!" "$twice"
 builds "list 2\nshared '\nshared '" "$empties"
+builds "list 2\nshared 'a\nshared 'a" \
+    "610000000000000003000000f4ffffff01000000$(zeros 12)03000000dcffffff01000000$(zeros 12)$two"
+# an empty shared text is one zero byte
+builds "list 3\nshared '\nshared 'b\nshared '" \
+    "006200000000000003000000f4ffffff$(zeros 16)03000000ddffffff01000000$(zeros 12)03000000c4ffffff$(zeros 16)05000000b4ffffff03000000$(zeros 12)"
 # once in the whole archive, regardless of its place
 builds "list 2\nlist 1\nshared 'hello\\sworld!\nshared 'hello\\sworld!" \
     68656c6c6f20776f726c64210000000003000000ecffffff0c00000000000000000000000000000005000000e4ffffff0100000000000000000000000000000003000000bcffffff0c00000000000000000000000000000005000000ccffffff02000000000000000000000000000000
@@ -166,6 +177,7 @@ refuses 'no wholes' 'wholes 0\nint 5\n' 1 BadNumber
 unsaved 'a whole at the root' 'wholes 1\nint 5\nwhole 0\n'
 unsaved 'a whole in two elements' 'wholes 1\nint 5\nlist 2\nwhole 0\nwhole 0\n'
 unsaved 'a whole in a whole' 'wholes 2\nint 1\nlist 2\nwhole 0\nwhole 0\nsome\nwhole 1\n'
+unsaved 'a whole in a whole, in a map' "wholes 2\nint 1\nlist 2\nwhole 0\nwhole 0\nordered 1\n'a\nsome\nwhole 1\n"
 
 begin '64 options, one in the other'
 text "$(printf 'some\\n%.0s' {1..64})int 5\n"
@@ -173,9 +185,9 @@ run build text a.cab
 prints 'built 1560\n'
 ends 0 ''
 holds a.cab "$five$(printf "$some%.0s" {1..64})"
-lines "get$(printf ' ?%.0s' {1..64})\nset int 6$(printf ' ?%.0s' {1..64})\nget$(printf ' ?%.0s' {1..63})\n"
+lines "get$(printf ' ?%.0s' {1..64})\nset int 6$(printf ' ?%.0s' {1..64})\nget$(printf ' ?%.0s' {1..63})\nget$(printf ' ?%.0s' {1..65})\n"
 run run a.cab
-prints 'int 5\nok\nsome\n'
+prints 'int 5\nok\nsome\nmissing\n'
 ends 0 ''
 holds a.cab "$six$(printf "$some%.0s" {1..64})"
 finish
@@ -220,6 +232,13 @@ run build no-text a.cab
 ends 1 'cab: cannot read no-text\n'
 holds a.cab "$five"
 leaves a.cab
+finish
+
+begin 'a text that is not there, and whose name has a space'
+run build 'a b.txt' a.cab
+prints ''
+ends 1 'cab: cannot read a b.txt\n'
+lacks a.cab
 finish
 
 begin 'a text that is a folder'
@@ -288,7 +307,7 @@ answers 'a line that is not UTF-8' 'get\xff\n' 'bad\n' "$five"
 answers 'a line for another kind' "set shared 'x\n" 'bad\n' "$five"
 answers 'keys and a range where there are none' "keys\nrange 'a 'b\nkeys #0\nrange 'a 'b ?\n" 'wrong\nwrong\nmissing\nmissing\n' "$five"
 answers 'steps of other kinds' "get 'x\nget ?\nget #0\nset int 6 'x\n" 'missing\nmissing\nmissing\nmissing\n' "$five"
-answers 'a leaf of another kind' 'set bool true\nget\n' 'refused\nint 5\n' "$five"
+answers 'a leaf of another kind' "set bool true\nset text 'abcdefghi\nget\n" 'refused\nrefused\nint 5\n' "$five"
 answers 'a line goes on after a refused one' 'get x\nset int 6\n' 'bad\nok\n' "$six"
 answers 'the last line without a newline' 'set int 6\nget' 'ok\nint 6\n' "$six"
 answers 'a byte 0 in a line' 'get\0\nget\n' 'bad\nint 5\n' "$five"
@@ -499,6 +518,14 @@ ends 1 'cab: run: InputTooLong after 4095 lines\n'
 holds a.cab "$five"
 finish
 
+begin 'the longest line, and one that is too long, in pieces of 999 bytes'
+archive "$five"
+{ long_line 1048576; echo get; long_line 1048577; echo get; } | dd ibs=65536 obs=999 iflag=fullblock status=none 2> /dev/null | "$cab" run a.cab > output 2> errors
+ended=${PIPESTATUS[2]}
+prints 'bad\nint 5\n'
+ends 1 'cab: run: LineTooLong after 2 lines\n'
+finish
+
 begin 'a line that is too long, and has no end'
 archive "$five"
 head -c 3000000 /dev/zero > input
@@ -662,6 +689,35 @@ if command -v script > /dev/null; then
     finish
 fi
 
+# works TEXT LINES ANSWERS TEXT: the answers in the archive of a text, which then is that of another one
+works() {
+    begin "questions and edits in: $1"
+    text "$1"
+    run build text a.cab
+    lines "$2"
+    run run a.cab
+    prints "$3"
+    ends 0 ''
+    text "$4"
+    run build text after.cab
+    cmp -s a.cab after.cab || differs 'the bytes are not those of the edited document'
+    finish
+}
+
+works 'int 5\n' 'get\nset int 6\nget\n' 'int 5\nok\nint 6\n' 'int 6\n'
+works 'list 2\nint 7\nint 19\n' 'get\nget #1\nset int 20 #1\nget #1\nget #2\nset bool true #0\nget #0 #0\n' \
+    'list 2\nint 19\nok\nint 20\nmissing\nrefused\nmissing\n' 'list 2\nint 7\nint 20\n'
+works "list 2\nsome\nint 5\ntext 'hello\\\\sworld!\n" \
+    "get #0\nget #0 ?\nset int 6 #0 ?\nset text 'HELLO\\\\sWORLD! #1\nget #1\nget #1 ?\nset int 7 #0\nkeys\n" \
+    "some\nint 5\nok\nok\ntext 'HELLO\\\\sWORLD!\nmissing\nrefused\nwrong\n" "list 2\nsome\nint 6\ntext 'HELLO\\\\sWORLD!\n"
+works "list 3\nshared 'hello\\\\sworld!\nsome\nshared 'hello\\\\sworld!\nint 5\n" \
+    "get #0\nget #1 ?\nset text 'HELLO\\\\sWORLD! #0\nset int 6 #2\nget #0\nget #0 #0\nkeys #0\n" \
+    "shared 'hello\\\\sworld!\nshared 'hello\\\\sworld!\nrefused\nok\nshared 'hello\\\\sworld!\nmissing\nwrong\n" \
+    "list 3\nshared 'hello\\\\sworld!\nsome\nshared 'hello\\\\sworld!\nint 6\n"
+works "ordered 2\n'a\nlist 2\nbool true\ntext 'nine\\\\sbytes\n'b\nsome\nordered 1\n'c\nint 5\n" \
+    "set text 'NINE\\\\sBYTES 'a #1\nset int -6 'b ? 'c\n" 'ok\nok\n' \
+    "ordered 2\n'a\nlist 2\nbool true\ntext 'NINE\\\\sBYTES\n'b\nsome\nordered 1\n'c\nint -6\n"
+
 # edited_as_built PATH LEAF LINE: after an edit in the file text's document, the bytes are those that cab build makes of
 # the text whose line of this number is the leaf
 edited_as_built() {
@@ -718,6 +774,7 @@ builds "ordered 6\n'a\nint 1\n'b\nint 2\n'c\nint 3\n'd\nint 4\n'e\nint 5\n'f\nin
 builds "ordered 1\n'hello\\sworld!\ntext 'HELLO\\sWORLD!" \
     "68656c6c6f20776f726c642148454c4c4f20574f524c4421$(with "$(leaf x 0)" 4 8c000000e4ffffff 48 020000008c000000c0ffffff)$(map -180 1)"
 builds "ordered 2\n'a\nordered 1\n'x\nint 1\n'b\nint 2" "$(leaf x 1)$(with "$(leaf a 0 b 2)" 48 "$(map -228 1)")$(map -180 2)"
+builds "ordered 1\n'a\nordered 1\n'b\nint 1" "$(leaf b 1)$(with "$(leaf a 0)" 48 "$(map -228 1)")$(map -180 1)"
 builds "list 2\nordered 1\n'a\nint 1\nordered 0" "$(leaf a 1)$(map -180 1)$(map 1 0)05000000ccffffff02000000000000000000000000000000"
 builds "ordered 2\n'a\nshared 'x\n'b\nlist 1\nshared 'x" \
     "780000000000000003000000f4ffffff01000000$(zeros 12)$(with "$(leaf a 0 b 0)" 48 03000000acffffff01 72 050000009cffffff01)$(map -180 2)"
@@ -727,10 +784,17 @@ builds "ordered 12\n$(printf "'%s\\\\nint 0\\\\n" a b c d e)'f\nshared 'one\n'g\
         with "$(inner "e8fdffff9cfeffff$absent$absent$absent$absent" f 0 i 0 j 0 k 0 l 0)" 48 03000000c4ffffff03
     )$(map -196 12)"
 
-# decimals N: the text of an ordered map whose keys are the numbers below N, each with the number 0
+# decimals N: the text of an ordered map whose keys are the numbers below N, each with its number
 decimals() {
     echo "ordered $1"
-    seq 0 $(($1 - 1)) | LC_ALL=C sort | sed "s/.*/'&\nint 0/"
+    seq 0 $(($1 - 1)) | LC_ALL=C sort | sed "s/.*/'&\nint &/"
+}
+
+# is_shown: whether a.cab is shown as its text
+is_shown() {
+    show a.cab
+    cmp -s output text || differs 'another text is shown'
+    ends 0 ''
 }
 
 for counted in '0 24' '1 200' '5 200' '6 392' '17 744' '35 1272' '36 1464' '112 4136' '215 7704'; do
@@ -743,10 +807,11 @@ for counted in '0 24' '1 200' '5 200' '6 392' '17 744' '35 1272' '36 1464' '112 
     cp a.cab before.cab
     { seq 0 "$count" | sed "s/.*/get '&/"; echo keys; } > input
     run run a.cab
-    { yes 'int 0' | head -n "$count"; echo missing; echo "keys $count$(grep "^'" text | sed 's/^/ /' | tr -d '\n')"; } > expected
+    { seq -f 'int %.0f' 0 $((count - 1)); echo missing; echo "keys $count$(grep "^'" text | sed 's/^/ /' | tr -d '\n')"; } > expected
     cmp -s output expected || differs 'the answers are others'
     ends 0 ''
     cmp -s a.cab before.cab || differs 'the archive was written'
+    is_shown
     finish
 done
 
@@ -893,9 +958,17 @@ finish
 begin 'a tree whose one child is a leaf without entries'
 empty_leaf=$(zeros 176)$(inner "$absent$absent$absent$absent${absent}94feffff" a 1 b 2 c 3 d 4 e 5)$(map -196 5)
 archive "$empty_leaf"
-lines "keys\nrange 'b 'd\nset int 9 'c\nget 'c\nget 'f\nrange 'e 'z\n"
+lines "get\nkeys\nrange 'b 'd\nrange 'bb 'e\nrange 'e 'z\nrange ' 'a\nrange 'f 'z\nrange 'd 'b\nrange 'b 'b\n"
 run run a.cab
-prints "keys 5 'a 'b 'c 'd 'e\nkeys 2 'b 'c\nok\nint 9\nmissing\nkeys 1 'e\n"
+prints "ordered 5\nkeys 5 'a 'b 'c 'd 'e\nkeys 2 'b 'c\nkeys 2 'c 'd\nkeys 1 'e\nkeys 0\nkeys 0\nkeys 0\nkeys 0\n"
+ends 0 ''
+lines "get 'a\nget 'e\nget 'f\nget '\nget #0\nget ?\nget 'a 'a\nkeys 'a\nkeys 'f\nrange 'a 'z 'a\nrange 'a 'z #0\n"
+run run a.cab
+prints 'int 1\nint 5\nmissing\nmissing\nmissing\nmissing\nmissing\nwrong\nmissing\nwrong\nmissing\n'
+ends 0 ''
+lines "set int 9 'c\nset bool true 'c\nset int 9\nset int 9 'f\nget 'c\n"
+run run a.cab
+prints 'ok\nrefused\nrefused\nmissing\nint 9\n'
 ends 0 ''
 holds a.cab "$(with "$empty_leaf" 280 09)"
 finish
@@ -1059,6 +1132,215 @@ for outcome in 'TooDeep 65' 'TooDeep 2198' 'Access 2199'; do
     nests 2 maps "$(leaf a 5)" "$(with "$(leaf a 0)" 48 06000000 52 "$(word -228)" 56 01)" "$(map -180 1)" $outcome
 done
 
+# opens OUTCOME NAME: opens the bytes in `made`, which are accepted, or refused for a cause
+opens() {
+    local fault=
+    archive "$made"
+    run run a.cab
+    read -r fault < errors
+    case $1 in
+        accepted) [ "$ended$fault" = 0 ] || differs "$2 ended with status $ended and $fault" ;;
+        *) [ "$ended$fault" = "1cab: open: $1" ] || differs "$2 ended with status $ended and $fault" ;;
+    esac
+}
+
+# of three nodes: the leaf before the root's first key, the root, and the leaf after its last key
+begin 'keys ascend in each node and across nodes'
+while read -r outcome before keys after; do
+    made=
+    push_leaf "$before" $made_fives
+    first=$at
+    push_leaf "$after" $made_fives
+    push_inner "$keys" "$first - - - - $at" $made_fives
+    push_node "map:$at:15"
+    opens "$outcome" "$before $keys $after"
+done << 'ROWS'
+accepted abcde fghij klmno
+accepted 12ABC DEabc xyz{~
+accepted -abcd fghij klmno
+KeysNotAscending aacde fghij klmno
+KeysNotAscending abcdd fghij klmno
+KeysNotAscending --cde fghij klmno
+KeysNotAscending abcde fghii klmno
+KeysNotAscending abcde fghij klmmo
+KeysNotAscending abcdf fghij klmno
+KeysNotAscending abcde fghij jlmno
+KeysNotAscending bacde fghij klmno
+KeysNotAscending a-cde fghij klmno
+KeysNotAscending abcde fgihj klmno
+KeysNotAscending abcde fghij klmon
+KeysNotAscending abcdg fhijk lmnop
+KeysNotAscending abcde fghik jlmno
+KeysNotAscending klmno fghij abcde
+ROWS
+finish
+
+begin 'the keys of each child lie between the keys around it'
+for place in {0..5}; do
+    for key in {a..k}; do
+        children=(- - - - - -)
+        children[place]=0
+        made=
+        push_leaf "$key" "$made_five"
+        push_inner bdfhj "${children[*]}" $made_fives
+        push_node "map:$at:6"
+        letters=acegik
+        [ "$key" = "${letters:place:1}" ] && outcome=accepted || outcome=KeysNotAscending
+        opens "$outcome" "$key in child $place"
+    done
+done
+finish
+
+# push_part KEYS: what a map of two keys leads to, or for `deep` 64 options in one another; sets `node` to it
+push_part() {
+    if [ "$1" = deep ]; then
+        push_tower 64 "$made_five" some
+    else
+        push_leaf "$1" "$made_five" "$made_five"
+        node=map:$at:2
+    fi
+}
+
+# push_two CONTAINER FIRST SECOND: a list of two parts, a map with both in its one leaf, or a map with the first one in a
+# leaf and the second one in the inner node after it
+push_two() {
+    local first leaf=0
+    push_part "$2"
+    first=$node
+    if [ "$1" = inner ]; then
+        push_leaf a "$first"
+        leaf=$at
+    fi
+    push_part "$3"
+    case $1 in
+        list)
+            at=$((${#made} / 2))
+            push_node "$first"
+            push_node "$node"
+            push_node "list:$at:2"
+            ;;
+        leaf)
+            push_leaf ab "$first" "$node"
+            push_node "map:$at:2"
+            ;;
+        inner)
+            push_inner bcdef "$leaf - - - - -" "$node" "$made_five" "$made_five" "$made_five" "$made_five"
+            push_node "map:$at:6"
+            ;;
+    esac
+}
+
+begin 'keys ascend afresh in each map, and the first fault is told'
+while read -r outcome first second; do
+    for container in list leaf inner; do
+        made=
+        push_two $container "$first" "$second"
+        opens "$outcome" "$first $second in $container"
+    done
+done << 'ROWS'
+accepted yz 12
+accepted yz yz
+KeysNotAscending yz 21
+TooDeep deep ab
+TooDeep ab deep
+TooDeep deep ba
+KeysNotAscending ba deep
+ROWS
+finish
+
+# options around a map of two keys, and below its first one
+begin 'a node is audited before the nodes in it'
+while read -r outcome around keys below; do
+    made=
+    push_tower "$below" "$made_five" some
+    push_leaf "$keys" "$node" "$made_five"
+    push_tower "$around" "map:$at:2" some
+    push_node "$node"
+    opens "$outcome" "$keys between $around and $below"
+done << 'ROWS'
+accepted 0 ab 63
+TooDeep 0 ab 64
+KeysNotAscending 0 ba 64
+KeysNotAscending 0 ba 63
+accepted 63 ab 0
+KeysNotAscending 63 ba 0
+KeysNotAscending 63 ba 1
+TooDeep 63 ab 1
+TooDeep 64 ab 0
+TooDeep 64 ba 0
+ROWS
+finish
+
+# deepest NAME TIMES NODE KIND..: so many times these containers around a node are accepted, and one more container is too
+# deep
+deepest() {
+    local tower most outer
+    begin "$2 times $1, and one more container"
+    made=68656c6c6f20776f726c64212e2e2e2e
+    push_tower "${@:2}"
+    tower=$made
+    most=$node
+    push_node "$most"
+    opens accepted 'the tower'
+    for outer in some list map; do
+        made=$tower
+        push_inside $outer "$most"
+        push_node "$node"
+        opens TooDeep "$outer around the tower"
+    done
+    finish
+}
+
+# shared text is no container; an option of nothing, and a list and a map without elements are
+empty_list=plain:05000000fcffffff$(zeros 16)
+deepest 'an option, around a number' 64 "$made_five" some
+deepest 'an option, around an option of nothing' 63 "plain:$none" some
+deepest 'an option, around a shared text' 64 shared:0:12 some
+deepest 'an option, around an empty map' 63 "$made_empty_map" some
+deepest 'a list, around a number' 64 "$made_five" list
+deepest 'a list, around an empty list' 63 "$empty_list" list
+deepest 'a list, around a shared text' 64 shared:0:12 list
+deepest 'a list, around an empty map' 63 "$made_empty_map" list
+deepest 'a map, around a number' 64 "$made_five" map
+deepest 'a map, around an empty map' 63 "$made_empty_map" map
+deepest 'a map, around an option of nothing' 63 "plain:$none" map
+deepest 'a map, a list, a map and an option, around a number' 16 "$made_five" map list map some
+deepest 'seven containers of each kind, around an empty map' 9 "$made_empty_map" map some list map map list some
+
+# the layout holds no length and no check sum, so some of the first bytes of an archive are archives too
+begin 'the first bytes of an archive are refused or answered'
+lines 'get\n'
+escaped=$(sed 's/../\\x&/g' <<< "$under_eu")
+mkdir folder
+for len in {0..344}; do
+    printf "${escaped:0:4 * len}" | tee folder/$len >> expected
+    run run folder/$len
+    answer= fault=
+    read -r answer < output
+    read -r fault < errors
+    case $len in
+        ? | 1? | 2[0-3]) wanted='1 cab: open: Access' ;;
+        2[4-9] | 3[01]) wanted='0int 7 ' ;;
+        33[6-9] | 34[0-3]) wanted='0int -773094113274 ' ;;
+        344) wanted='0ordered 1 ' ;;
+        *) wanted= ;;
+    esac
+    case ${wanted:-any} in
+        "$ended$answer $fault") ;;
+        any)
+            case "$ended$answer $fault" in
+                0?*' ' | '1 cab: open: '?*) ;;
+                *) differs "of $len bytes it answered $answer, with the fault $fault" ;;
+            esac
+            ;;
+        *) differs "of $len bytes it answered $answer, with the fault $fault" ;;
+    esac
+done
+for len in {0..344}; do
+    echo folder/$len
+done | xargs cat | cmp -s - expected || differs 'an archive was written'
+finish
+
 # flips NAME HEX LINES N: opens the bytes with each single bit changed. N times they are the archive of a document, and
 # answer each line; else they are refused, and left as they were.
 flips() {
@@ -1154,10 +1436,11 @@ for counted in '0 24' '1 120' '5 248' '6 280' '17 680' '35 1368' '36 1400' '112 
     cp a.cab before.cab
     { seq 0 "$count" | sed "s/.*/get '&/"; echo keys; echo get; } > input
     run run a.cab
-    { yes 'int 0' | head -n "$count"; echo missing; echo wrong; echo "hashed $count"; } > expected
+    { seq -f 'int %.0f' 0 $((count - 1)); echo missing; echo wrong; echo "hashed $count"; } > expected
     cmp -s output expected || differs 'the answers are others'
     ends 0 ''
     cmp -s a.cab before.cab || differs 'the archive was written'
+    is_shown
     finish
 done
 
@@ -1294,15 +1577,25 @@ answers_in "$z_and_a" 'edits and questions under keys of a kept map' \
     "kept 2\nkeys 2 'z 'a\nint 2\nmissing\nmissing\nok\nrefused\nint 3\nint 1\nwrong\nwrong\n" "$(with "$z_and_a" 96 03)"
 answers_in "$(with "$z_and_a" 132 aaaaaaaa)" 'bytes of a kept map that no field has' "get 'a\nset int 3 'a\n" 'int 2\nok\n' "$(with "$z_and_a" 96 03 132 aaaaaaaa)"
 
-for count in 0 1 5 6 17 36 215; do
+# the last number comes first
+for counted in '0 24' '1 96' '5 240' '6 280' '17 696' '35 1368' '36 1408' '112 4264' '215 8160'; do
+    read -r count size <<< "$counted"
     begin "a kept map of $count keys, each of which answers"
-    decimals "$count" | sed 's/^ordered/kept/' > text
+    { echo "kept $count"; seq $((count - 1)) -1 0 | sed "s/.*/'&\nint &/"; } > text
     run build text a.cab
+    prints "built $size\n"
     ends 0 ''
-    { sed -n "s/^'/get '/p" text; echo "get 'x"; echo get; } > input
+    { seq 0 "$count" | sed "s/.*/get '&/"; echo keys; echo get; } > input
     run run a.cab
-    { yes 'int 0' | head -n "$count"; echo missing; echo "kept $count"; } > expected
+    {
+        seq -f 'int %.0f' 0 $((count - 1))
+        echo missing
+        echo "keys $count$(grep "^'" text | sed 's/^/ /' | tr -d '\n')"
+        echo "kept $count"
+    } > expected
     cmp -s output expected || differs 'other answers'
+    ends 0 ''
+    is_shown
     finish
 done
 
@@ -1882,17 +2175,22 @@ shows 'bool true'
 shows 'int -9223372036854775808'
 shows "text '"
 shows "text 'hello\\sworld!"
+shows "shared '"
 shows "shared 'hello\\sworld!"
 shows none
 shows 'some\nnone'
 shows 'list 0'
+shows "list 2\nshared '\nshared '"
+shows 'list 3\nbool false\nlist 1\nint 7\nint 19'
 shows "list 3\nshared 'a\nlist 2\nint 7\nint 19\nshared 'a"
 shows 'ordered 0'
-shows "ordered 6\n'\nint 1\n'a\nint 2\n'b\nint 3\n'c\nint 4\n'd\nint 5\n'e\nint 6"
+shows "ordered 7\n'\nint 1\n'a\nint 2\n'aa\nint 3\n'b\nint 4\n'c\nint 5\n'd\nint 6\n'e\nint 7"
 shows 'hashed 0'
-shows "hashed 6\n'\nint 1\n'a\nint 2\n'b\nint 3\n'c\nint 4\n'd\nint 5\n'e\nint 6"
+shows "hashed 7\n'\nint 1\n'a\nint 2\n'aa\nint 3\n'b\nint 4\n'c\nint 5\n'd\nint 6\n'e\nint 7"
 shows 'kept 0'
 shows "kept 2\n'z\nint 1\n'a\nint 2"
+shows "kept 7\n'd\nint 1\n'\nint 2\n'aa\nint 3\n'c\nint 4\n'e\nint 5\n'a\nint 6\n'b\nint 7"
+shows "list 3\nshared 'a\nsome\nshared 'b\nordered 2\n'k\nshared 'a\n'l\nhashed 1\n'm\nshared 'b"
 shows "ordered 1\n'k\nsome\nlist 1\nhashed 1\n'l\nshared '"
 shows "list 2\nkept 2\n'b\nhashed 1\n'x\nkept 1\n'y\nshared 'c\n'a\ntext 'c\nsome\nkept 0"
 
@@ -1936,6 +2234,28 @@ for bytes in "${twice:0:24}2e2e2e2e${twice:32}" \
     holds a.cab "$bytes"
     finish
 done
+
+# images HEX TEXT: an archive that is no image, which is shown as a text, and that text's archive is another one
+images() {
+    begin "no image, and shown: $2"
+    archive "$1"
+    show a.cab
+    prints "$2\n"
+    ends 0 ''
+    cp output text
+    run build text again.cab
+    ! cmp -s a.cab again.cab || differs 'the archive is an image'
+    show again.cab
+    prints "$2\n"
+    ends 0 ''
+    holds a.cab "$1"
+    finish
+}
+
+images "$empty_leaf" "ordered 5\n'a\nint 1\n'b\nint 2\n'c\nint 3\n'd\nint 4\n'e\nint 5"
+images "$(with "$coffee" 188 aaaaaaaaaaaaaaaaaaaaaaaa)bbbbbbbbbbbbbb" "ordered 2\n'coffee\nint 300\n'tea\nint 250"
+images "$found" "hashed 1\n'a\nint 1"
+images "$(with "$z_and_a" 132 aaaaaaaa)" "kept 2\n'z\nint 1\n'a\nint 2"
 
 # unshown NAME HEX CAUSE: bytes that are no archive
 unshown() {

@@ -16,18 +16,12 @@ mod serialize;
 mod serialize_set;
 mod set;
 
-pub use archive_btree_layout as layout;
-pub use archive_btree_maps as maps;
 pub use archive_btree_maps::map::Iter;
 pub use archive_btree_maps::{
     ArchivedBTreeMap, ArchivedBTreeSet, BTreeMapResolver, BTreeSetResolver, InvalidLength,
     IterSeal, Keys, Range, RangeSeal, Values, ValuesSeal, eq_btree_map, eq_btree_map_with,
     eq_btree_set, eq_map,
 };
-pub use archive_btree_nodes as nodes;
-pub use archive_btree_spelling as spelling;
-pub use archive_btree_walking as walking;
-pub use archive_btree_writing as writing;
 pub use archive_forms_borrowed::{EntryParts, EntryStep, SerializeEntry};
 pub use deserialize::deserialize_map_each;
 pub use entries::serialize_entries_with_each;

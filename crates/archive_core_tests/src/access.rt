@@ -50,8 +50,10 @@ fn root_lies_at_the_end_rounded_down(rt: HostRuntime) {
         (28, 24, 16),
     ];
     for (len, number, option) in rows {
-        assert!(rt; root_position::<ArchivedU32>(len) == number);
-        assert!(rt; root_position::<MaybeBytes>(len) == option);
+        assert!(rt;
+            root_position::<ArchivedU32>(len) == number
+                && root_position::<MaybeBytes>(len) == option
+        );
     }
 }
 
@@ -69,8 +71,7 @@ fn bytes_that_are_lent_stay_as_they_were(rt: HostRuntime) {
             Ok(root) => Ok(root.pos()),
             Err(refusal) => Err(refusal),
         };
-        assert!(rt; found == result);
-        assert!(rt; lent == given);
+        assert!(rt; found == result && lent == given);
     }
     let mut lent = spoilt;
     match access_mut::<MaybeBytes>(rt.alloc(), &mut lent) {

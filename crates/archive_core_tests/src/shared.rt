@@ -7,7 +7,7 @@ use archive_core::{
 use std::alloc::Global;
 
 /// Returns the error of checking an archive, if there is one.
-fn refusal<T: CheckBytes<HighValidator>>(alloc: Global, bytes: &[u8]) -> Option<Error> {
+pub(crate) fn refusal<T: CheckBytes<HighValidator>>(alloc: Global, bytes: &[u8]) -> Option<Error> {
     access::<T>(alloc, bytes).err()
 }
 

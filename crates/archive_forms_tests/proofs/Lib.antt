@@ -1,3 +1,2 @@
 mod Lists
 mod Named
-mod Trees

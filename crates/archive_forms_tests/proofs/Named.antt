@@ -12,15 +12,11 @@ use Rattle.archive_forms_values.proofs.Contents.{named_checked}
 use Rattle.archive_forms_values.specs.Parts.{HasValue}
 use Rattle.archive_forms_values.proofs.Named.{named_held, named_has}
 use Rattle.archive_forms_laws.proofs.Levels.{option_box_sized}
-use Rattle.archive_forms_tests.specs.Recursive.{list_shape, list_body, KnowsList, tree_shape, tree_body, KnowsTree}
+use Rattle.archive_forms_tests.specs.Recursive.{list_shape, list_body, KnowsList}
 
 -- a list is where its option is
 pub list_checked : (names : Names) (bytes : List ℕ) (pos : ℕ) (k l : Kept) (r : Result (Unit {0}) Error) → KnowsList names → Checks names bytes (at pos list_body) k r l → Checks names bytes (at pos list_shape) k r l
 list_checked = named_checked list_body 1 8 four (option_box_sized list_shape) refl
-
--- and a tree is where its vector is
-pub tree_checked : (names : Names) (bytes : List ℕ) (pos : ℕ) (k l : Kept) (r : Result (Unit {0}) Error) → KnowsTree names → Checks names bytes (at pos tree_body) k r l → Checks names bytes (at pos tree_shape) k r l
-tree_checked = named_checked tree_body 2 8 four refl refl
 
 -- ---- values that are there
 
@@ -31,10 +27,3 @@ module _ (bytes : List ℕ) (pos : ℕ) where
 
   pub list_has : HasValue list_shape KnowsList bytes pos → HasValue list_body KnowsList bytes pos
   list_has = named_has list_body 1 8 four (option_box_sized list_shape) refl KnowsList (λ names known. known) bytes pos
-
-  -- and that of a tree that of its vector
-  pub tree_held : (v : Value) → HeldAt tree_shape KnowsTree bytes pos v → HeldAt tree_body KnowsTree bytes pos v
-  tree_held = named_held tree_body 2 8 four refl refl KnowsTree (λ names known. known) bytes pos
-
-  pub tree_has : HasValue tree_shape KnowsTree bytes pos → HasValue tree_body KnowsTree bytes pos
-  tree_has = named_has tree_body 2 8 four refl refl KnowsTree (λ names known. known) bytes pos

@@ -1,3 +1,2 @@
 pub mod Lists
 pub mod Recursive
-pub mod Trees

@@ -1,8 +1,8 @@
--- The layouts of types that hold themselves: a name, and the shape that it denotes.
+-- The layout of a type that holds itself: a name, and the shape that it denotes.
 use Rattle.std.specs.Prelude.{◌≡◌, Some}
 use Rattle.archive_shape_layout.specs.Shape.{Shape}
 use Rattle.archive_shape_layout.specs.Shape.Alignment.{four}
-use Rattle.archive_shape_layout.specs.Shape.Shape.{option, box, vector, named}
+use Rattle.archive_shape_layout.specs.Shape.Shape.{option, box, named}
 use Rattle.archive_shape_layout.specs.Shape.Pointee.{sized}
 use Rattle.archive_shape_layout.specs.Content.{Names, shape_named}
 
@@ -15,13 +15,3 @@ list_body = option (box (sized list_shape))
 
 abbrev pub KnowsList : Names → Type 0
 KnowsList names = shape_named names 1 ≡ Some list_body
-
--- a tree, whose elements are trees
-abbrev pub tree_shape : Shape
-tree_shape = named 2 8 four
-
-abbrev pub tree_body : Shape
-tree_body = vector tree_shape
-
-abbrev pub KnowsTree : Names → Type 0
-KnowsTree names = shape_named names 2 ≡ Some tree_body

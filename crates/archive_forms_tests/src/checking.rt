@@ -1,8 +1,9 @@
-//! Tests of the checks of forms that have parts.
+//! Tests of the checks of leaves and of forms that have parts.
 mod arrays;
 mod boxed_slices;
 mod boxes;
 mod layouts;
+mod leaves;
 mod results;
 mod tuples;
 mod vectors;

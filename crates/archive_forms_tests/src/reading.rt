@@ -1,5 +1,4 @@
 //! Tests of the reading of forms that have parts.
-mod arrays;
 mod boxed_slices;
 mod boxes;
 pub(crate) mod checked;

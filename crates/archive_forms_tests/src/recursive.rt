@@ -1,7 +1,6 @@
-//! Types that hold themselves, and tests of them. The definitions of their layouts name the types, so these are no test code.
+//! A type that holds itself, and tests of it. The definition of its layout names the type, so that this is no test code.
 #[cfg(test)]
 mod checking;
 pub mod list;
 #[cfg(test)]
 mod reading_back;
-pub mod tree;

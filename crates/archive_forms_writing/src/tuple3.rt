@@ -2,12 +2,12 @@
 ghost use Rattle.std.specs.Prelude.{◌≡◌, ℕ, ◌+◌, ◌-◌, ◌^◌, ◌<◌, ◌≤◌, [], ◌∷◌};
 ghost use Rattle.archive_forms_values.specs.Tuples.{tuple3};
 ghost use Rattle.archive_forms_laws.specs.Fields.{tuple3_spelling};
-ghost use Rattle.archive_forms_laws.specs.Serializing.{CanResolve, HasState, Resolves, Serializes, SerializesBy};
+ghost use Rattle.archive_forms_laws.specs.Serializing.{CanResolve, HasState, Resolves, Serializes};
 ghost use Rattle.archive_forms_laws.proofs.Fields.{tuple3_spells};
 ghost use Rattle.archive_forms_laws.proofs.Views.{known_spells};
 ghost use Rattle.archive_forms_writing.specs.Steps.{StepTakes, StepWrites};
 
-use crate::{Archive, Serialize, resolve_field, serialize_element};
+use crate::{Archive, Serialize, resolve_field};
 use archive_forms_values::ArchivedTuple3;
 use archive_shape::{Allocator, Error, Place, Portable, Writer};
 use std::marker::PhantomData;
@@ -100,24 +100,18 @@ impl<S: Writer + Allocator, A: Serialize<S>, B: Serialize<S>, C: Serialize<S>> S
         &self,
         serializer: &mut S,
     ) -> Result<(A::Resolver, B::Resolver, C::Resolver), Error> {
-        serialize_tuple3_each::<A, B, C, S, _, _, _>(
-            self,
-            serializer,
-            |item: &A, s: &mut S| -> Result<(A::Resolver, PhantomData<A::Archived>), Error>
-                requires room { S.failures s.old < 2 ^ 64 - 1 }
-                requires state { HasState S.pos S.known s.old }
-                ensures { SerializesBy (λ q. q.0) A.spelling S.Writer item.now s.old s.new result }
-            { serialize_element(item, s) },
-            |item: &B, s: &mut S| -> Result<(B::Resolver, PhantomData<B::Archived>), Error>
-                requires room { S.failures s.old < 2 ^ 64 - 1 }
-                requires state { HasState S.pos S.known s.old }
-                ensures { SerializesBy (λ q. q.0) B.spelling S.Writer item.now s.old s.new result }
-            { serialize_element(item, s) },
-            |item: &C, s: &mut S| -> Result<(C::Resolver, PhantomData<C::Archived>), Error>
-                requires room { S.failures s.old < 2 ^ 64 - 1 }
-                requires state { HasState S.pos S.known s.old }
-                ensures { SerializesBy (λ q. q.0) C.spelling S.Writer item.now s.old s.new result }
-            { serialize_element(item, s) },
-        )
+        let a = match self.0.serialize(serializer) {
+            Ok(done) => done,
+            Err(e) => return Err(e),
+        };
+        let b = match self.1.serialize(serializer) {
+            Ok(done) => done,
+            Err(e) => return Err(e),
+        };
+        let c = match self.2.serialize(serializer) {
+            Ok(done) => done,
+            Err(e) => return Err(e),
+        };
+        Ok((a, b, c))
     }
 }

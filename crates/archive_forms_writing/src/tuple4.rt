@@ -2,12 +2,12 @@
 ghost use Rattle.std.specs.Prelude.{◌≡◌, ℕ, ◌+◌, ◌-◌, ◌^◌, ◌<◌, ◌≤◌, [], ◌∷◌};
 ghost use Rattle.archive_forms_values.specs.Tuples.{tuple4};
 ghost use Rattle.archive_forms_laws.specs.Fields.{tuple4_spelling};
-ghost use Rattle.archive_forms_laws.specs.Serializing.{CanResolve, HasState, Resolves, Serializes, SerializesBy};
+ghost use Rattle.archive_forms_laws.specs.Serializing.{CanResolve, HasState, Resolves, Serializes};
 ghost use Rattle.archive_forms_laws.proofs.Fields.{tuple4_spells};
 ghost use Rattle.archive_forms_laws.proofs.Views.{known_spells};
 ghost use Rattle.archive_forms_writing.specs.Steps.{StepTakes, StepWrites};
 
-use crate::{Archive, Serialize, resolve_field, serialize_element};
+use crate::{Archive, Serialize, resolve_field};
 use archive_forms_values::ArchivedTuple4;
 use archive_shape::{Allocator, Error, Place, Portable, Writer};
 use std::marker::PhantomData;
@@ -119,29 +119,22 @@ impl<
         &self,
         serializer: &mut S,
     ) -> Result<(A::Resolver, B::Resolver, C::Resolver, D::Resolver), Error> {
-        serialize_tuple4_each::<A, B, C, D, S, _, _, _, _>(
-            self,
-            serializer,
-            |item: &A, s: &mut S| -> Result<(A::Resolver, PhantomData<A::Archived>), Error>
-                requires room { S.failures s.old < 2 ^ 64 - 1 }
-                requires state { HasState S.pos S.known s.old }
-                ensures { SerializesBy (λ q. q.0) A.spelling S.Writer item.now s.old s.new result }
-            { serialize_element(item, s) },
-            |item: &B, s: &mut S| -> Result<(B::Resolver, PhantomData<B::Archived>), Error>
-                requires room { S.failures s.old < 2 ^ 64 - 1 }
-                requires state { HasState S.pos S.known s.old }
-                ensures { SerializesBy (λ q. q.0) B.spelling S.Writer item.now s.old s.new result }
-            { serialize_element(item, s) },
-            |item: &C, s: &mut S| -> Result<(C::Resolver, PhantomData<C::Archived>), Error>
-                requires room { S.failures s.old < 2 ^ 64 - 1 }
-                requires state { HasState S.pos S.known s.old }
-                ensures { SerializesBy (λ q. q.0) C.spelling S.Writer item.now s.old s.new result }
-            { serialize_element(item, s) },
-            |item: &D, s: &mut S| -> Result<(D::Resolver, PhantomData<D::Archived>), Error>
-                requires room { S.failures s.old < 2 ^ 64 - 1 }
-                requires state { HasState S.pos S.known s.old }
-                ensures { SerializesBy (λ q. q.0) D.spelling S.Writer item.now s.old s.new result }
-            { serialize_element(item, s) },
-        )
+        let a = match self.0.serialize(serializer) {
+            Ok(done) => done,
+            Err(e) => return Err(e),
+        };
+        let b = match self.1.serialize(serializer) {
+            Ok(done) => done,
+            Err(e) => return Err(e),
+        };
+        let c = match self.2.serialize(serializer) {
+            Ok(done) => done,
+            Err(e) => return Err(e),
+        };
+        let d = match self.3.serialize(serializer) {
+            Ok(done) => done,
+            Err(e) => return Err(e),
+        };
+        Ok((a, b, c, d))
     }
 }

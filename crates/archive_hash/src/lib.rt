@@ -19,18 +19,15 @@ mod serialize_set;
 mod set;
 
 pub use archive_forms_borrowed::{EntryParts, EntryStep, SerializeEntry};
-pub use archive_hash_checking as checking;
-pub use archive_hash_maps as maps;
 pub use archive_hash_maps::map::Iter;
 pub use archive_hash_maps::{
     ArchivedHashMap, ArchivedHashSet, ArchivedHashTable, HashMapResolver, HashSetResolver,
     HashTableResolver, HashedKey, InvalidLength, IterMut, Keys, RawIter, RawIterSeal, Values,
     ValuesMut, eq_hash_map, eq_hash_set,
 };
-pub use archive_hash_probing as probing;
 pub use archive_hash_probing::FxHasher64;
-pub use archive_hash_walking as walking;
-pub use archive_hash_writing as writing;
+pub use archive_hash_walking::{number_at, search_table, value_position};
+pub use archive_hash_writing::{hash_items, serialize_hashed};
 pub use deserialize::deserialize_hash_map_each;
 pub use entries::Entries;
 pub use entries_with::serialize_entries_with_each;

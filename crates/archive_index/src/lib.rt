@@ -8,7 +8,9 @@ pub mod map;
 pub mod set;
 mod writing;
 
-pub use archive_hash as hash;
+pub use archive_hash::{
+    LOAD_FACTOR, serialize_entries_with_each as serialize_hashed_entries_with_each,
+};
 pub use archive_index_spelling::IndexMapResolver;
 pub use check::check_index_map_each;
 pub use map::{

@@ -2,10 +2,6 @@
 #![tactic(auto)]
 
 #[cfg(test)]
-mod checking;
-#[cfg(test)]
-mod layout;
-#[cfg(test)]
 mod pointers;
 #[cfg(test)]
 mod portable;

@@ -1,5 +1,3 @@
-//! Tests of sharing, pooling, keys and small types.
+//! Tests of keys and of small types.
 mod keys;
-mod shared;
-mod slots;
 mod small;

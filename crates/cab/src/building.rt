@@ -3,8 +3,7 @@ ghost use Rattle.std.specs.Prelude.{IfOk, IfErr};
 ghost use Rattle.cab.specs.Building.{Builds, RefusesText, EndsBuildBy};
 
 use crate::replacing;
-use cab_files::cabinet::{Fault, read_text, to_bytes};
-use cab_files::standard_output;
+use cab_files::{Fault, read_text, standard_output, to_bytes};
 use std::alloc::Global;
 use std::fs;
 use std::fs::File;

@@ -10,8 +10,7 @@ mod replacing;
 mod running;
 
 use building::build;
-use cab_files::cabinet::{Fault, fault_line};
-use cab_files::{OutputStream, exit_code, words};
+use cab_files::{Fault, OutputStream, exit_code, fault_line, words};
 use command::{Command, parse};
 use running::run_archive;
 use std::fs::File;

@@ -7,8 +7,7 @@ ghost use Rattle.cab.specs.Ending.{IsFlushed, IsFirstFault, EditsArchive, EndsRu
 
 use crate::input::InputStream;
 use crate::replacing::write_back;
-use cab_files::cabinet::{Count, Fault, RunCause, RunFault, check, run_in};
-use cab_files::{OutputStream, read};
+use cab_files::{Count, Fault, OutputStream, RunCause, RunFault, check, read, run_in};
 use std::alloc::Global;
 use std::fs::{File, Metadata};
 use std::io;

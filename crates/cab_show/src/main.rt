@@ -5,8 +5,7 @@ mod command;
 mod reporting;
 mod showing;
 
-use cab_files::cabinet::Fault;
-use cab_files::{OutputStream, exit_code, words};
+use cab_files::{Fault, OutputStream, exit_code, words};
 use command::parse;
 use reporting::report;
 use showing::show_archive;

@@ -4,7 +4,7 @@ ghost use Rattle.archive_shape_writing.specs.Writing.{Writes};
 ghost use Rattle.cab_show.specs.Showing.{spelled_report};
 
 use archive_shape_writing::{Error, Writer};
-use cab_files::cabinet::{Fault, fault_line};
+use cab_files::{Fault, fault_line};
 
 /// Writes the line that reports a fault: that of `cab`, except for the usage.
 pub fn report<W: Writer>(fault: &Fault, writer: &mut W) -> Result<(), Error>

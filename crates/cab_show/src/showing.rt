@@ -9,8 +9,9 @@ ghost use Rattle.cab_files.specs.Cabinet.TextGrammar.Tree.{Tree};
 ghost use Rattle.cab_show.specs.Showing.{EndsShowBy};
 
 use archive_shape_writing::{Error, Writer};
-use cab_files::cabinet::{Document, Fault, OpenRefusal, check, load, write_text};
-use cab_files::{OutputStream, read, standard_output};
+use cab_files::{
+    Document, Fault, OpenRefusal, OutputStream, check, load, read, standard_output, write_text,
+};
 use std::alloc::Global;
 use std::fs::File;
 use std::io;

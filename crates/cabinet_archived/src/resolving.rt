@@ -19,8 +19,7 @@ use archive_forms_values::{
 use archive_forms_writing::Archive;
 use archive_hash_maps::{ArchivedHashMap, HashMapResolver, HashTableResolver};
 use archive_hash_probing::FxHasher64;
-use archive_index::hash::LOAD_FACTOR;
-use archive_index::{ArchivedIndexMap, IndexMapResolver};
+use archive_index::{ArchivedIndexMap, IndexMapResolver, LOAD_FACTOR};
 use archive_shape::{Error, Place};
 use cabinet_documents::NodeResolver;
 use cabinet_text_nodes::Node;

@@ -205,7 +205,7 @@ fn serialize_hashed<S: TextSharing>(
     ensures { Serializes (hashed_spelling node_spelling) S.Writer (pairs_within map.now.entries)
         serializer.old serializer.new result }
 {
-    archive_index::hash::serialize_entries_with_each::<String, Node, NodesIn<'_>, S, _, _>(
+    archive_index::serialize_hashed_entries_with_each::<String, Node, NodesIn<'_>, S, _, _>(
         &NodesIn { wholes },
         map,
         serializer,

@@ -9,7 +9,7 @@ mod saving;
 mod setting;
 
 pub use asking::{ask, find, find_counted, head, locate};
-pub use cabinet_archived as archived;
+pub use cabinet_archived::ArchivedNode;
 pub use loading::load;
 pub use opening::{OpenRefusal, check, check_scanned};
 pub use saving::{SaveRefusal, save, to_bytes};

@@ -27,7 +27,7 @@ use Rattle.cabinet_documents.proofs.Values.{value_of, values_of, values_of_pairs
 -- ---- the table of a document without wholes is empty
 
 mutual
-  none_listed : (t : Tree) → HasNoWholes t → with_wholes [] t ≡ []
+  pub none_listed : (t : Tree) → HasNoWholes t → with_wholes [] t ≡ []
   none_listed (leaf l) none = refl
   none_listed (shared s) none = refl
   none_listed nothing none = refl

@@ -15,33 +15,33 @@ small n h = record { sfits = h }
 pub five_image : FiveImage
 unfolding align_up shape_content number_value
 five_image =
-    written_is_image_law _ _ (small 5 (lit< tt), lit≤ tt)
+    written_is_image_law _ _ (small 5 (lit< tt), lit≤ tt, lit< tt)
     ((tt, tt), lit< tt, (((λ names start. refl, refl, bytes_number w64 5), lit< tt), tt))
     refl
 
 pub true_image : TrueImage
 unfolding align_up shape_content choose
 true_image =
-    written_is_image_law _ _ (tt, lit≤ tt)
+    written_is_image_law _ _ (tt, lit≤ tt, lit< tt)
     ((tt, tt), lit< tt, (((λ names start. refl, refl, bytes_more 1 [] (lit< tt) bytes_none), lit< tt), tt))
     refl
 
 pub nothing_image : NothingImage
 unfolding align_up
-nothing_image = written_is_image_law _ _ (tt, lit≤ tt) ((tt, tt), lit< tt, ((tt, lit< tt), tt)) refl
+nothing_image = written_is_image_law _ _ (tt, lit≤ tt, lit< tt) ((tt, tt), lit< tt, ((tt, lit< tt), tt)) refl
 
 pub world_image : WorldImage
 unfolding align_up
 world_image =
     let utf8 = IsUtf8-word (codes "world") refl in
-    written_is_image_law _ _ (utf8, lit≤ tt) (((utf8, tt), tt), lit< tt, (((utf8, tt), lit< tt), tt)) refl
+    written_is_image_law _ _ (utf8, lit≤ tt, lit< tt) (((utf8, tt), tt), lit< tt, (((utf8, tt), lit< tt), tt)) refl
 
 pub long_text_image : LongTextImage
 unfolding align_up
 long_text_image =
     let utf8 = IsUtf8-word (codes "hello world!") refl in
     let back : FitsOffset 20 0 = record { sfits = omega (arith, ints) } in
-    written_is_image_law _ _ (utf8, lit≤ tt)
+    written_is_image_law _ _ (utf8, lit≤ tt, lit< tt)
     (((utf8, (lit< tt, lit< tt)), tt), lit< tt, (((utf8, (lit< tt, back)), lit< tt), tt))
     refl
 
@@ -49,7 +49,7 @@ pub some_five_image : SomeFiveImage
 unfolding align_up shape_content number_value
 some_five_image =
     let back : FitsOffset 32 0 = record { sfits = omega (arith, ints) } in
-    written_is_image_law _ _ (small 5 (lit< tt), lit≤ tt) (
+    written_is_image_law _ _ (small 5 (lit< tt), lit≤ tt, lit< tt) (
       (((tt, tt), lit< tt, (((λ names start. refl, refl, bytes_number w64 5), lit< tt), tt)), tt),
       lit< tt,
       ((back, lit< tt), tt),
@@ -61,7 +61,7 @@ unfolding align_up shape_content number_value
 seven_and_nineteen_image =
     let back : FitsOffset 52 0 = record { sfits = omega (arith, ints) } in
     written_is_image_law seven_and_nineteen seven_and_nineteen_bytes
-    (((small 7 (lit< tt), (small 19 (lit< tt), tt)), lit< tt), lit≤ tt) (
+    (((small 7 (lit< tt), (small 19 (lit< tt), tt)), lit< tt), lit≤ tt, lit< tt) (
       (
         (
           (tt, (tt, tt)),
@@ -79,7 +79,7 @@ pub empty_list_image : EmptyListImage
 unfolding align_up
 empty_list_image =
     let back : FitsOffset 4 0 = record { sfits = omega (arith, ints) } in
-    written_is_image_law _ _ ((tt, lit< tt), lit≤ tt)
+    written_is_image_law _ _ ((tt, lit< tt), lit≤ tt, lit< tt)
     (((tt, lit< tt, tt), tt), lit< tt, (((back, lit< tt), lit< tt), tt))
     refl
 
@@ -88,7 +88,7 @@ unfolding align_up
 list_of_an_empty_list_image =
     let near : FitsOffset 4 0 = record { sfits = omega (arith, ints) } in
     let back : FitsOffset 28 0 = record { sfits = omega (arith, ints) } in
-    written_is_image_law _ _ ((((tt, lit< tt), tt), lit< tt), lit≤ tt) (
+    written_is_image_law _ _ ((((tt, lit< tt), tt), lit< tt), lit≤ tt, lit< tt) (
       ((((tt, lit< tt, tt), tt), lit< tt, (((near, lit< tt), lit< tt), tt)), tt),
       lit< tt,
       (((back, lit< tt), lit< tt), tt),
@@ -103,7 +103,7 @@ shared_text_image =
     let second : FitsOffset 44 0 = record { sfits = omega (arith, ints) } in
     let back : FitsOffset 68 16 = record { sfits = omega (arith, ints) } in
     written_is_image_law (shared_twice (codes "hello world!")) _
-    (((utf8, (utf8, tt)), lit< tt), lit≤ tt) (
+    (((utf8, (utf8, tt)), lit< tt), lit≤ tt, lit< tt) (
       (
         (
           ((tt, (utf8, lit< tt), refl), (tt, tt)),
@@ -125,7 +125,7 @@ empty_shared_text_image =
     let second : FitsOffset 36 0 = record { sfits = omega (arith, ints) } in
     let back : FitsOffset 60 8 = record { sfits = omega (arith, ints) } in
     written_is_image_law (shared_twice []) _
-    (((utf8, (utf8, tt)), lit< tt), lit≤ tt) (
+    (((utf8, (utf8, tt)), lit< tt), lit≤ tt, lit< tt) (
       (
         (
           ((tt, (utf8, lit< tt), refl), (tt, tt)),

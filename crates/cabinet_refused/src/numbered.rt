@@ -2,8 +2,7 @@
 
 use crate::call::make_each;
 use crate::tally::{Outcome, Tally};
-use cabinet_doubles::Row;
-use cabinet_doubles::cabinet::{read_text, to_bytes};
+use cabinet_doubles::{Row, read_text, to_bytes};
 use std::alloc::{AllocError, Global};
 
 /// A kind of maps, the number of keys, and the size of the archive.

@@ -1,7 +1,7 @@
 //! The number of archives with one changed byte that opening and asking leave unchanged.
 ghost use Rattle.std.specs.Prelude.{◌<◌, length};
 
-use cabinet_doubles::cabinet::{Group1, Group8, Group16, Line, Scan, open_scanned};
+use cabinet_doubles::{Group1, Group8, Group16, Line, Scan, open_scanned};
 use std::alloc::{AllocError, Global};
 
 /// Returns an archive with another value of one byte.

@@ -2,9 +2,9 @@
 #![tactic(auto)]
 
 #[cfg(test)]
-mod faults;
+mod archives;
 #[cfg(test)]
-mod limits;
+mod carrying;
 #[cfg(test)]
 mod loading;
 #[cfg(test)]
@@ -12,12 +12,8 @@ mod locating;
 #[cfg(test)]
 mod opening;
 #[cfg(test)]
-mod refused;
+mod printing;
 #[cfg(test)]
-mod refusing;
+mod saving;
 #[cfg(test)]
-mod saved;
-#[cfg(test)]
-mod sessions;
-#[cfg(test)]
-mod sizes;
+mod spoilt;

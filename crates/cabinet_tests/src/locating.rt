@@ -1,110 +1,105 @@
 //! Tests of the kinds that paths lead to, and of what the look-ups on them take, by each scan.
-use crate::opening::{FIVE_ABOVE_NONE, sparse, tall};
+use crate::archives::{A_APART, EMPTY_HASHED, EMPTY_KEPT, EMPTY_ORDERED, FIVE_ABOVE_NONE, tall};
+use archive_shape_writing::Error;
 use cabinet_doubles::archives::{A_TO_WORLD, COFFEE_AND_TEA, VAT_IN_EU, Z_AND_A};
-use cabinet_doubles::cabinet::{
-    Group1, Group8, Group16, Kind, Leaf, Line, Scan, SetAnswer, Step, Steps, open, open_scanned,
-    read_line,
+use cabinet_doubles::{
+    Document, Group1, Group8, Group16, Kind, Line, Node, OpenRefusal, Scan, Step, Steps, check,
+    open, open_scanned, read_line, to_bytes,
 };
-use std::alloc::Global;
+use std::alloc::{AllocError, Global};
+use std::collections::BTreeMap;
 use std::test::Fail;
 
-/// Returns the path of a question.
-fn path_of(alloc: Global, line: &[u8]) -> Result<Vec<Step>, Fail> {
-    match read_line(alloc, line)? {
-        Line::Get(path) => Ok(path),
-        _ => Err(Fail::from("no get")),
-    }
+/// Returns what a path leads to in an archive that is opened by a scan, and the comparisons and strides on the way.
+fn located<G: Scan>(alloc: Global, archive: &[u8], path: &[Step]) -> Option<(Option<Kind>, Steps)> {
+    let mut bytes = Vec::from_slice(alloc, archive).ok()?;
+    let opened = open_scanned::<G>(alloc, bytes.as_mut_slice()).ok()?;
+    Some(opened.locate(path))
 }
 
-/// Returns what a path leads to in an archive that is opened by a scan.
-fn located<G: Scan>(
-    alloc: Global,
-    archive: &[u8],
-    path: &[Step],
-) -> Result<(Option<Kind>, Steps), Fail> {
-    let mut bytes = Vec::from_slice(alloc, archive)?;
-    let opened = open_scanned::<G>(alloc, bytes.as_mut_slice()).map_err(|_| "refused")?;
-    Ok(opened.locate(path))
-}
-
-/// Returns the same by each scan.
+/// Returns the same for the path of a question, by each scan.
 fn located_by_each(
     alloc: Global,
     archive: &[u8],
     line: &[u8],
-) -> Result<[(Option<Kind>, Steps); 3], Fail> {
-    let path = path_of(alloc, line)?;
-    Ok([
-        located::<Group1>(alloc, archive, &path)?,
-        located::<Group8>(alloc, archive, &path)?,
-        located::<Group16>(alloc, archive, &path)?,
-    ])
+) -> [Option<(Option<Kind>, Steps)>; 3] {
+    match read_line(alloc, line) {
+        Ok(Line::Get(path)) => [
+            located::<Group1>(alloc, archive, &path),
+            located::<Group8>(alloc, archive, &path),
+            located::<Group16>(alloc, archive, &path),
+        ],
+        _ => [None; 3],
+    }
 }
 
+/// Archives, questions, the kinds of what they ask for, and the comparisons and strides on the way.
+const ROWS: [(&[u8], &[u8], Option<Kind>, usize, usize); 20] = [
+    (COFFEE_AND_TEA, b"get", Some(Kind::Ordered), 0, 0),
+    (COFFEE_AND_TEA, b"get 'tea", Some(Kind::Int), 2, 0),
+    (COFFEE_AND_TEA, b"get 'x", None, 2, 0),
+    (COFFEE_AND_TEA, b"get #0", None, 0, 0),
+    (COFFEE_AND_TEA, b"get ?", None, 0, 0),
+    // what follows a step that leads nowhere takes nothing
+    (COFFEE_AND_TEA, b"get 'a 'a", None, 1, 0),
+    (VAT_IN_EU, b"get 'eu", Some(Kind::Hashed), 1, 0),
+    (VAT_IN_EU, b"get 'eu 'vat", Some(Kind::List), 1, 1),
+    (VAT_IN_EU, b"get 'eu 'vat #1", Some(Kind::Int), 1, 1),
+    (A_TO_WORLD, b"get 'a", Some(Kind::Text), 0, 1),
+    (A_TO_WORLD, b"get 'b", None, 0, 1),
+    // a key in another place that its search shows
+    (A_APART, b"get 'a", Some(Kind::Int), 0, 1),
+    (Z_AND_A, b"get", Some(Kind::Kept), 0, 0),
+    (Z_AND_A, b"get 'a", Some(Kind::Int), 0, 1),
+    (Z_AND_A, b"get 'b", None, 0, 1),
+    // an inner node's five keys, and its child without entries
+    (FIVE_ABOVE_NONE, b"get 'e", Some(Kind::Int), 5, 0),
+    (FIVE_ABOVE_NONE, b"get 'f", None, 5, 0),
+    // maps without pairs
+    (EMPTY_ORDERED, b"get 'a", None, 0, 0),
+    (EMPTY_HASHED, b"get 'a", None, 0, 0),
+    (EMPTY_KEPT, b"get 'a", None, 0, 0),
+];
+
 #[test]
-fn paths_lead_to_kinds_and_take_steps(rt: HostRuntime) -> Result<(), Fail> {
-    let tall = tall(rt.alloc(), 32)?;
-    let sparse = sparse(rt.alloc(), 5, &[5, 37])?;
-    let rows: [(&[u8], &[u8], Option<Kind>, usize, usize); 18] = [
-        (COFFEE_AND_TEA, b"get", Some(Kind::Ordered), 0, 0),
-        (COFFEE_AND_TEA, b"get 'tea", Some(Kind::Int), 2, 0),
-        (COFFEE_AND_TEA, b"get 'x", None, 2, 0),
-        (COFFEE_AND_TEA, b"get #0", None, 0, 0),
-        (COFFEE_AND_TEA, b"get ?", None, 0, 0),
-        // what follows a step that leads nowhere takes nothing
-        (COFFEE_AND_TEA, b"get 'a 'a", None, 1, 0),
-        (VAT_IN_EU, b"get 'eu", Some(Kind::Hashed), 1, 0),
-        (VAT_IN_EU, b"get 'eu 'vat", Some(Kind::List), 1, 1),
-        (VAT_IN_EU, b"get 'eu 'vat #1", Some(Kind::Int), 1, 1),
-        (A_TO_WORLD, b"get 'a", Some(Kind::Text), 0, 1),
-        (A_TO_WORLD, b"get 'b", None, 0, 1),
-        (Z_AND_A, b"get", Some(Kind::Kept), 0, 0),
-        (Z_AND_A, b"get 'a", Some(Kind::Int), 0, 1),
-        (Z_AND_A, b"get 'b", None, 0, 1),
-        // an inner node's five keys, and its child without entries
-        (&FIVE_ABOVE_NONE, b"get 'e", Some(Kind::Int), 5, 0),
-        (&FIVE_ABOVE_NONE, b"get 'f", None, 5, 0),
-        (tall.as_slice(), b"get '159", Some(Kind::Int), 160, 0),
-        (sparse.as_slice(), b"get 'a", Some(Kind::Int), 0, 1),
-    ];
-    for (archive, line, kind, comparisons, strides) in rows {
+fn paths_lead_to_kinds_and_take_steps(rt: HostRuntime) {
+    for (archive, line, kind, comparisons, strides) in ROWS {
         let steps = Steps {
             comparisons,
             strides,
         };
-        assert_eq!(rt;
-            located_by_each(rt.alloc(), archive, line)?,
-            [(kind, steps); 3],
-            "{line:?}"
-        );
+        let located = located_by_each(rt.alloc(), archive, line);
+        assert!(rt; located == [Some((kind, steps)); 3]);
     }
-    Ok(())
 }
 
-/// Maps of each kind without pairs.
-const EMPTY: [[u8; 24]; 3] = [
-    *b"\x06\0\0\0\x01\0\0\0\0\0\0\0\0\0\0\0\0\0\0\0\0\0\0\0",
-    *b"\x07\0\0\0\x01\0\0\0\0\0\0\0\0\0\0\0\0\0\0\0\0\0\0\0",
-    *b"\x08\0\0\0\x01\0\0\0\0\0\0\0\0\0\0\0\x01\0\0\0\0\0\0\0",
-];
-
 #[test]
-fn maps_without_pairs_take_nothing(rt: HostRuntime) -> Result<(), Fail> {
-    let none = Steps {
-        comparisons: 0,
+fn trees_have_at_most_32_levels_of_five_comparisons(rt: HostRuntime) -> Result<(), AllocError> {
+    let most = tall(rt.alloc(), 32)?;
+    let steps = Steps {
+        comparisons: 160,
         strides: 0,
     };
-    for archive in EMPTY {
-        assert!(rt; located_by_each(rt.alloc(), &archive, b"get 'a")? == [(None, none); 3]);
-    }
+    let located = located_by_each(rt.alloc(), &most, b"get 'Oe");
+    assert!(rt; located == [Some((Some(Kind::Int), steps)); 3]);
+    let more = tall(rt.alloc(), 33)?;
+    let refusal = OpenRefusal::Access(Error::TooManyLevels);
+    assert!(rt; check(rt.alloc(), &more) == Err(refusal));
     Ok(())
 }
 
 #[test]
-fn the_last_key_of_the_tallest_tree_is_set(rt: HostRuntime) -> Result<(), Fail> {
-    let mut bytes = tall(rt.alloc(), 32)?;
-    let path = path_of(rt.alloc(), b"get '159")?;
-    let mut opened = open(rt.alloc(), bytes.as_mut_slice()).map_err(|_| "refused")?;
-    assert!(rt; opened.set(&path, &Leaf::Int(9)) == SetAnswer::Done);
+fn keys_of_a_map_of_215_are_compared_from_the_root_down(rt: HostRuntime) -> Result<(), Fail> {
+    let mut ordered = BTreeMap::new(rt.alloc());
+    for key in 0..215 {
+        ordered.insert(format!(in rt.alloc(); "{key}")?, Node::Int(key))?;
+    }
+    let document = Document::new(Node::Ordered(ordered))?;
+    let mut archive = to_bytes(rt.alloc(), &document)?;
+    let opened = open(rt.alloc(), archive.as_mut_slice()).map_err(|_| "refused")?;
+    for (key, comparisons) in [("0", 3), ("99", 15)] {
+        let path = [Step::Key(String::from_str(rt.alloc(), key)?)];
+        assert!(rt; opened.locate(&path).1.comparisons == comparisons);
+    }
     Ok(())
 }

@@ -5,13 +5,9 @@ mod answering;
 pub mod laws;
 
 pub use answering::answer;
-pub use cabinet_text_bytes as bytes;
-pub use cabinet_text_grammar as grammar;
 pub use cabinet_text_grammar::Cause;
-pub use cabinet_text_nodes as nodes;
 pub use cabinet_text_nodes::{
     Asked, Document, DocumentRefusal, Kind, Leaf, LeafRef, Line, LineRefusal, Node, SetAnswer,
     Step, write_text,
 };
-pub use cabinet_text_reading as reading;
 pub use cabinet_text_reading::{TextRefusal, read_line, read_text};

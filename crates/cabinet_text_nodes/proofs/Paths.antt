@@ -18,6 +18,10 @@ use Rattle.cabinet_text_nodes.specs.View.{node_tree, node_trees, node_pairs, ste
 use Rattle.cabinet_text_nodes.specs.declared.line.Step as view
 use Rattle.cabinet_text_nodes.specs.declared.node.Node.{Node}
 
+pub no_items : {A : Type 0} (xs : List A) → length xs ≡ 0 → xs ≡ []
+no_items [] h = refl
+no_items (x ∷ xs) h = absurd (omega (arith, h))
+
 -- where the rest of a path leads from where its first steps lead
 abbrev pub then_at : Option Tree → List Step → Option Tree
 then_at found path = option_and_then (λ t. node_at t path) found

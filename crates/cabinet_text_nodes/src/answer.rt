@@ -17,6 +17,6 @@ pub enum SetAnswer {
     Done,
     /// The path leads nowhere.
     Missing,
-    /// The node there has another kind, or is a text of another length.
+    /// The node there has another kind, is a text of another length, or is in a whole.
     Refused,
 }

@@ -13,7 +13,7 @@ pub enum Step {
     Key(String),
     /// Into a list, by a place counted from 0.
     Place(u64),
-    /// Into an option.
+    /// Into an option or a whole.
     Inside,
 }
 

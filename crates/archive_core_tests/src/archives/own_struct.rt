@@ -1,6 +1,7 @@
 //! Tests of a user-defined struct.
 use super::accessed_and_read;
-use archive_core::{Error, access_mut, from_bytes, root_position, to_bytes};
+use crate::shared::refusal;
+use archive_core::{Error, access_mut, root_position, to_bytes};
 use archive_example_player::{ArchivedPlayer, Player};
 use std::alloc::{AllocError, Global};
 use std::test::Fail;
@@ -43,8 +44,9 @@ fn is_player(found: &Player, level: u8) -> bool {
 fn a_struct_is_written_behind_what_its_fields_lead_to(rt: HostRuntime) -> Result<(), Fail> {
     let alloc = rt.alloc();
     let bytes = to_bytes(alloc, &player(alloc)?)?;
-    assert!(rt; bytes.as_slice() == PLAYER.as_slice());
-    assert!(rt; root_position::<ArchivedPlayer>(bytes.len()) == 28);
+    assert!(rt;
+        bytes.as_slice() == PLAYER.as_slice() && root_position::<ArchivedPlayer>(bytes.len()) == 28
+    );
     Ok(())
 }
 
@@ -56,8 +58,7 @@ fn a_field_is_edited_where_it_lies(rt: HostRuntime) -> Result<(), Fail> {
     ArchivedPlayer::level_seal(root).write(43);
     let mut wanted = PLAYER;
     wanted[28] = 43;
-    assert!(rt; bytes == wanted);
-    assert!(rt; is_player(&accessed_and_read::<Player>(alloc, &bytes)?, 43));
+    assert!(rt; bytes == wanted && is_player(&accessed_and_read::<Player>(alloc, &bytes)?, 43));
     Ok(())
 }
 
@@ -65,6 +66,5 @@ fn a_field_is_edited_where_it_lies(rt: HostRuntime) -> Result<(), Fail> {
 fn a_struct_with_a_wrong_tag_is_refused(rt: HostRuntime) {
     let mut bytes = PLAYER;
     bytes[40] = 2;
-    let refused = from_bytes::<Player>(rt.alloc(), &bytes).err();
-    assert!(rt; refused == Some(Error::InvalidTag));
+    assert!(rt; refusal::<ArchivedPlayer>(rt.alloc(), &bytes) == Some(Error::InvalidTag));
 }

@@ -30,7 +30,6 @@ fn equal_numbers(alloc: Global, n: u32) -> Result<Result<Pair, Error>, Error>
 #[test]
 fn equal_numbers_of_two_keys_are_read_back(rt: HostRuntime) -> Result<(), Fail> {
     let (first, second) = equal_numbers(rt.alloc(), 5)??;
-    assert!(rt; (*first.value, *second.value) == (5, 5));
-    assert!(rt; (first.key, second.key) == (0, 4));
+    assert!(rt; (*first.value, *second.value) == (5, 5) && (first.key, second.key) == (0, 4));
     Ok(())
 }

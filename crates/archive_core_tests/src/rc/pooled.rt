@@ -4,10 +4,11 @@ use archive_core::{Error, Pool, Pooling, PoolingExt, Unpool};
 #[test]
 fn a_pool_has_a_value_made_once_and_an_unpool_each_time(rt: HostRuntime) {
     let mut pool = Pool::<usize>::new(rt.alloc());
-    assert!(rt; pool.deserialize_shared(8, |_, pos| Ok(pos / 2)) == Ok(4));
-    assert!(rt; pool.deserialize_shared(8, |_, _| Err(Error::InvalidTag)) == Ok(4));
+    let refuse = |_: &mut Pool<usize>, _: usize| -> Result<usize, Error> { Err(Error::InvalidTag) };
     assert!(rt;
-        pool.deserialize_shared(9, |_, _| Err(Error::InvalidTag)) == Err(Error::InvalidTag)
+        pool.deserialize_shared(8, |_, pos| Ok(pos / 2)) == Ok(4)
+            && pool.deserialize_shared(8, refuse) == Ok(4)
+            && pool.deserialize_shared(9, refuse) == Err(Error::InvalidTag)
     );
     let mut pool = Unpool;
     for value in [3, 4, 5] {
@@ -29,10 +30,4 @@ fn a_step_leaves_its_position_begun(rt: HostRuntime) {
         Ok(2)
     });
     assert!(rt; made == Err(Error::AlreadyFinished));
-    let mut forgotten = Pool::<usize>::new(rt.alloc());
-    let made = forgotten.deserialize_shared(8, |inner: &mut Pool<usize>, _| {
-        inner.clear();
-        Ok(2)
-    });
-    assert!(rt; made == Err(Error::NotStarted));
 }

@@ -28,11 +28,12 @@ fn upgraded_text(alloc: Global, bytes: &[u8], text: &str) -> Result<Option<bool>
 fn a_weak_pointer_leads_to_a_value_or_to_nothing(rt: HostRuntime) {
     let alloc = rt.alloc();
     let there = b"\x07\0\0\0\x01\0\0\0\xf8\xff\xff\xff";
-    assert!(rt; upgraded(alloc, there) == Ok(Some(7)));
-    assert!(rt; upgraded(alloc, &[0; 8]) == Ok(None));
+    assert!(rt; upgraded(alloc, there) == Ok(Some(7)) && upgraded(alloc, &[0; 8]) == Ok(None));
     let there = b"ab\0\0\x01\0\0\0\xf8\xff\xff\xff\x02\0\0\0";
-    assert!(rt; upgraded_text(alloc, there, "ab") == Ok(Some(true)));
-    assert!(rt; upgraded_text(alloc, &[0; 12], "") == Ok(None));
+    assert!(rt;
+        upgraded_text(alloc, there, "ab") == Ok(Some(true))
+            && upgraded_text(alloc, &[0; 12], "") == Ok(None)
+    );
     let other_tag = b"\x02\0\0\0\xfc\xff\xff\xff\0\0\0\0";
     assert!(rt; upgraded_text(alloc, other_tag, "") == Err(Error::InvalidTag));
 }

@@ -25,12 +25,14 @@ fn lists(alloc: Global) -> Result<[Shared<Rc<Vec<Shared<Rc<u32>>>>>; 2], Error> 
 #[test]
 fn values_in_shared_values_are_shared(rt: HostRuntime) -> Result<(), Fail> {
     let [first, second] = archived_and_read(rt.alloc(), &lists(rt.alloc())?)??;
-    assert!(rt; Rc::ptr_eq(&first.value, &second.value));
-    assert!(rt; first.value.len() == 3);
-    assert!(rt; second.value.len() == 3);
-    assert!(rt; Rc::ptr_eq(&first.value[0].value, &second.value[1].value));
-    assert!(rt; !Rc::ptr_eq(&first.value[0].value, &second.value[2].value));
-    assert!(rt; Rc::strong_count(&first.value[0].value) == 2);
+    assert!(rt;
+        Rc::ptr_eq(&first.value, &second.value)
+            && first.value.len() == 3
+            && second.value.len() == 3
+            && Rc::ptr_eq(&first.value[0].value, &second.value[1].value)
+            && !Rc::ptr_eq(&first.value[0].value, &second.value[2].value)
+            && Rc::strong_count(&first.value[0].value) == 2
+    );
     Ok(())
 }
 
@@ -45,10 +47,12 @@ fn elements_and_texts_are_shared(rt: HostRuntime) -> Result<(), Fail> {
         ],
     );
     let (numbers, texts) = archived_and_read(alloc, &pairs)??;
-    assert!(rt; RcSlice::ptr_eq(&numbers[0].value, &numbers[1].value));
-    assert!(rt; RcStr::ptr_eq(&texts[0].value, &texts[1].value));
-    assert!(rt; numbers[1].value.as_slice() == &[6, 7][..]);
-    assert!(rt; texts[1].value.as_str() == "hello world!");
+    assert!(rt;
+        RcSlice::ptr_eq(&numbers[0].value, &numbers[1].value)
+            && RcStr::ptr_eq(&texts[0].value, &texts[1].value)
+            && numbers[1].value.as_slice() == &[6, 7][..]
+            && texts[1].value.as_str() == "hello world!"
+    );
     Ok(())
 }
 
@@ -78,8 +82,7 @@ fn fields_of_a_tuple_share_by_their_keys_alone(rt: HostRuntime) -> Result<(), Fa
     let alloc = rt.alloc();
     let pair = (number(alloc, 3, 7)?, number(alloc, 3, 7)?);
     let (first, second) = archived_and_read(alloc, &pair)??;
-    assert!(rt; first.key == second.key);
-    assert!(rt; !Rc::ptr_eq(&first.value, &second.value));
+    assert!(rt; first.key == second.key && !Rc::ptr_eq(&first.value, &second.value));
     Ok(())
 }
 

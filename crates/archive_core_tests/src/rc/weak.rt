@@ -46,8 +46,9 @@ fn the_value_of_one_key_stands_once_and_those_of_two_apart(rt: HostRuntime) -> R
         let bytes = to_bytes(alloc, &pair)?;
         assert!(rt; &*bytes == expected);
         let (first, second) = from_bytes::<Pair>(alloc, &bytes)?;
-        assert!(rt; led(&first) == Some((0, 7)));
-        assert!(rt; (second.key, *second.value) == (position, value));
+        assert!(rt;
+            led(&first) == Some((0, 7)) && (second.key, *second.value) == (position, value)
+        );
     }
     Ok(())
 }
@@ -57,8 +58,9 @@ fn a_weak_pointer_to_nothing_is_zeros(rt: HostRuntime) -> Result<(), Error> {
     let alloc = rt.alloc();
     let nothing = SharedWeak::<Rc<u32>> { shared: None };
     let bytes = to_bytes(alloc, &nothing)?;
-    assert!(rt; &*bytes == &[0; 8][..]);
-    assert!(rt; led(&from_bytes::<SharedWeak<Rc<u32>>>(alloc, &bytes)?) == None);
+    assert!(rt;
+        &*bytes == &[0; 8][..] && led(&from_bytes::<SharedWeak<Rc<u32>>>(alloc, &bytes)?) == None
+    );
     let pair = (nothing, number(alloc, 3, 7)?);
     let bytes = to_bytes(alloc, &pair)?;
     let expected: &[u8] = b"\x07\0\0\0\0\0\0\0\0\0\0\0\xf4\xff\xff\xff";
@@ -84,8 +86,8 @@ fn weak_pointers_to_elements_and_texts_are_archived_and_read(rt: HostRuntime) ->
     let (elements, letters) = from_bytes::<Unsized>(alloc, &bytes)?;
     assert!(rt;
         matches!(&elements.shared, Some(led) if led.key == 0 && led.value.as_slice() == [6, 8].as_slice())
+            && matches!(&letters.shared, Some(led) if led.key == 8 && &*led.value == "ab")
     );
-    assert!(rt; matches!(&letters.shared, Some(led) if led.key == 8 && &*led.value == "ab"));
     let nothing: Unsized = (SharedWeak { shared: None }, SharedWeak { shared: None });
     assert!(rt; &*to_bytes(alloc, &nothing)? == &[0; 24][..]);
     Ok(())

@@ -10,8 +10,10 @@ fn pieces_go_behind_one_another_up_to_the_end(rt: HostRuntime) -> Result<(), Fai
     buffer.write(b"ab")?;
     assert!(rt; buffer.write(b"cde") == Err(Error::BufferOverflow));
     buffer.write(b"c")?;
-    assert!(rt; buffer.pos() == 3);
-    assert!(rt; buffer.bytes() == b"abc".as_slice());
-    assert!(rt; memory == [b'a', b'b', b'c', 0xcc]);
+    assert!(rt;
+        buffer.pos() == 3
+            && buffer.bytes() == b"abc".as_slice()
+            && memory == [b'a', b'b', b'c', 0xcc]
+    );
     Ok(())
 }

@@ -16,13 +16,17 @@ fn pool_of_one_position<T: ExactClone>(alloc: Global, value: T) -> Result<Pool<T
 #[test]
 fn position_is_begun_once_and_ends_once(rt: HostRuntime) -> Result<(), Fail> {
     let mut pool: Pool<usize> = Pool::with_capacity(rt.alloc(), 8)?;
+    assert!(rt;
+        pool.start_pooling(1) == Ok(PoolingState::Started)
+            && pool.start_pooling(1) == Ok(PoolingState::Pending)
+            && pool.finish_pooling(1, 8) == Ok(())
+            && pool.start_pooling(1) == Ok(PoolingState::Finished(8))
+            && pool.finish_pooling(1, 9) == Err(Error::AlreadyFinished)
+            && pool.finish_pooling(2, 8) == Err(Error::NotStarted)
+            && pool.start_pooling(2) == Ok(PoolingState::Started)
+    );
+    pool.clear();
     assert!(rt; pool.start_pooling(1) == Ok(PoolingState::Started));
-    assert!(rt; pool.start_pooling(1) == Ok(PoolingState::Pending));
-    assert!(rt; pool.finish_pooling(1, 8) == Ok(()));
-    assert!(rt; pool.start_pooling(1) == Ok(PoolingState::Finished(8)));
-    assert!(rt; pool.finish_pooling(1, 9) == Err(Error::AlreadyFinished));
-    assert!(rt; pool.finish_pooling(2, 8) == Err(Error::NotStarted));
-    assert!(rt; pool.start_pooling(2) == Ok(PoolingState::Started));
     Ok(())
 }
 
@@ -41,8 +45,8 @@ fn pool_of_handles_tells_one_to_the_same_value(rt: HostRuntime) -> Result<(), Fa
     let mut pool = pool_of_one_position(alloc, RcValue::new(shared.clone()?))?;
     let first = told(&mut pool)?;
     let second = told(&mut pool)?;
-    assert!(rt; first.as_ref().map(|rc| **rc) == Some(7));
-    assert!(rt; second.as_ref().map(|rc| Rc::ptr_eq(rc, &shared)) == Some(true));
+    assert!(rt; matches!(&first, Some(rc) if **rc == 7));
+    assert!(rt; matches!(&second, Some(rc) if Rc::ptr_eq(rc, &shared)));
     assert!(rt; Rc::strong_count(&shared) == 4);
     Ok(())
 }

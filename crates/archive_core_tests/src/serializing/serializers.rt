@@ -36,12 +36,12 @@ fn write_copy<S: Writer + Allocator>(serializer: &mut S, bytes: &[u8]) -> Result
 }
 
 #[test]
-fn serializer_writes_as_its_writer_and_gives_it_back(rt: HostRuntime) -> Result<(), Fail> {
+fn serializer_writes_as_its_writer_and_gives_it_back(rt: HostRuntime) {
     let alloc = rt.alloc();
     let mut serializer = Serializer::new(Vec::new(alloc), alloc, ());
-    assert!(rt; write_copy(&mut serializer, b"ab") == Ok(2));
-    assert!(rt; write_copy(&mut serializer, b"cde") == Ok(5));
+    assert!(rt;
+        write_copy(&mut serializer, b"ab") == Ok(2) && write_copy(&mut serializer, b"cde") == Ok(5)
+    );
     let (writer, _, _) = serializer.into_raw_parts();
     assert!(rt; writer.as_slice() == b"abcde".as_slice());
-    Ok(())
 }

@@ -7,12 +7,14 @@ use std::test::Fail;
 fn writer_is_padded_and_aligned_by_zeros(rt: HostRuntime) -> Result<(), Fail> {
     let mut bytes = Vec::new(rt.alloc());
     bytes.write(b"abc")?;
-    assert!(rt; bytes.pad(0) == Ok(()));
-    assert!(rt; bytes.align(4) == Ok(4));
-    assert!(rt; bytes.align(4) == Ok(4));
-    assert!(rt; bytes.align_for::<ArchivedU64>() == Ok(8));
-    assert!(rt; bytes.pad(3) == Ok(()));
-    assert!(rt; bytes.as_slice() == b"abc\0\0\0\0\0\0\0\0".as_slice());
+    assert!(rt;
+        bytes.pad(0) == Ok(())
+            && bytes.align(4) == Ok(4)
+            && bytes.align(4) == Ok(4)
+            && bytes.align_for::<ArchivedU64>() == Ok(8)
+            && bytes.pad(3) == Ok(())
+            && bytes.as_slice() == b"abc\0\0\0\0\0\0\0\0".as_slice()
+    );
     Ok(())
 }
 
@@ -21,7 +23,9 @@ fn own_bytes_are_aligned(rt: HostRuntime) -> Result<(), Fail> {
     let alloc = rt.alloc();
     let mut bytes = Vec::new(alloc);
     bytes.write(b"a")?;
-    assert!(rt; bytes.resolve_aligned(alloc, &0x0102u16, ()) == Ok(2));
-    assert!(rt; bytes.as_slice() == [b'a', 0, 2, 1].as_slice());
+    assert!(rt;
+        bytes.resolve_aligned(alloc, &0x0102u16, ()) == Ok(2)
+            && bytes.as_slice() == [b'a', 0, 2, 1].as_slice()
+    );
     Ok(())
 }

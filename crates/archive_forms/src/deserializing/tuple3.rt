@@ -4,8 +4,7 @@ ghost use Rattle.archive_shape.specs.ShapeLayout.Shape.{size_of};
 ghost use Rattle.archive_forms_values.specs.Tuples.{tuple3};
 ghost use Rattle.archive_forms_values.specs.Parts.{HasValue};
 ghost use Rattle.archive_forms_values.specs.Fields.{all_three};
-ghost use Rattle.archive_forms.specs.Deserializing.{Deserializes, DeserializesBy};
-ghost use Rattle.archive_forms.specs.Keeping.{three_of};
+ghost use Rattle.archive_forms.specs.Deserializing.{Deserializes};
 ghost use Rattle.archive_forms.specs.Reading.{reads_tuple3};
 ghost use Rattle.archive_forms.specs.Steps.{StepTakes, StepReads};
 
@@ -89,36 +88,21 @@ impl<
         deserializer: &mut (A::Pool, B::Pool, C::Pool),
     ) -> Result<(T, U, V), Error> {
         let bytes = this.bytes;
-        deserialize_tuple3_each::<T, U, V, A, B, C, (A::Pool, B::Pool, C::Pool), _, _, _>(
-            *this,
-            deserializer,
-            |d: &mut (A::Pool, B::Pool, C::Pool), pos: usize| -> Result<
-                (T, PhantomData<T::Archived>),
-                Error,
-            >
-                requires there { HasValue A.shape A.knows bytes.now pos }
-                requires kept { three_of A.Pool.is_of B.Pool.is_of C.Pool.is_of d.old bytes.now }
-                ensures value { DeserializesBy A.reads A.shape A.knows bytes.entry.now pos (λ q. q.0) result }
-                ensures keeps { IfOk result (λ _. three_of A.Pool.is_of B.Pool.is_of C.Pool.is_of d.new bytes.entry.now) }
-            { deserialize_element::<T, A>(bytes, pos, alloc, &mut d.0) },
-            |d: &mut (A::Pool, B::Pool, C::Pool), pos: usize| -> Result<
-                (U, PhantomData<U::Archived>),
-                Error,
-            >
-                requires there { HasValue B.shape B.knows bytes.now pos }
-                requires kept { three_of A.Pool.is_of B.Pool.is_of C.Pool.is_of d.old bytes.now }
-                ensures value { DeserializesBy B.reads B.shape B.knows bytes.entry.now pos (λ q. q.0) result }
-                ensures keeps { IfOk result (λ _. three_of A.Pool.is_of B.Pool.is_of C.Pool.is_of d.new bytes.entry.now) }
-            { deserialize_element::<U, B>(bytes, pos, alloc, &mut d.1) },
-            |d: &mut (A::Pool, B::Pool, C::Pool), pos: usize| -> Result<
-                (V, PhantomData<V::Archived>),
-                Error,
-            >
-                requires there { HasValue C.shape C.knows bytes.now pos }
-                requires kept { three_of A.Pool.is_of B.Pool.is_of C.Pool.is_of d.old bytes.now }
-                ensures value { DeserializesBy C.reads C.shape C.knows bytes.entry.now pos (λ q. q.0) result }
-                ensures keeps { IfOk result (λ _. three_of A.Pool.is_of B.Pool.is_of C.Pool.is_of d.new bytes.entry.now) }
-            { deserialize_element::<V, C>(bytes, pos, alloc, &mut d.2) },
-        )
+        let at = ArchivedTuple3::first(*this).pos;
+        let t = match deserialize_element::<T, A>(bytes, at, alloc, &mut deserializer.0) {
+            Ok(done) => done.0,
+            Err(e) => return Err(e),
+        };
+        let at = ArchivedTuple3::second(*this).pos;
+        let u = match deserialize_element::<U, B>(bytes, at, alloc, &mut deserializer.1) {
+            Ok(done) => done.0,
+            Err(e) => return Err(e),
+        };
+        let at = ArchivedTuple3::third(*this).pos;
+        let v = match deserialize_element::<V, C>(bytes, at, alloc, &mut deserializer.2) {
+            Ok(done) => done.0,
+            Err(e) => return Err(e),
+        };
+        Ok((t, u, v))
     }
 }

@@ -4,8 +4,7 @@ ghost use Rattle.archive_shape.specs.ShapeLayout.Shape.{size_of};
 ghost use Rattle.archive_forms_values.specs.Tuples.{tuple4};
 ghost use Rattle.archive_forms_values.specs.Parts.{HasValue};
 ghost use Rattle.archive_forms_values.specs.Fields.{all_four};
-ghost use Rattle.archive_forms.specs.Deserializing.{Deserializes, DeserializesBy};
-ghost use Rattle.archive_forms.specs.Keeping.{four_of};
+ghost use Rattle.archive_forms.specs.Deserializing.{Deserializes};
 ghost use Rattle.archive_forms.specs.Reading.{reads_tuple4};
 ghost use Rattle.archive_forms.specs.Steps.{StepTakes, StepReads};
 
@@ -105,59 +104,26 @@ impl<
         deserializer: &mut (A::Pool, B::Pool, C::Pool, D::Pool),
     ) -> Result<(T, U, V, W), Error> {
         let bytes = this.bytes;
-        deserialize_tuple4_each::<
-            T,
-            U,
-            V,
-            W,
-            A,
-            B,
-            C,
-            D,
-            (A::Pool, B::Pool, C::Pool, D::Pool),
-            _,
-            _,
-            _,
-            _,
-        >(
-            *this,
-            deserializer,
-            |d: &mut (A::Pool, B::Pool, C::Pool, D::Pool), pos: usize| -> Result<
-                (T, PhantomData<T::Archived>),
-                Error,
-            >
-                requires there { HasValue A.shape A.knows bytes.now pos }
-                requires kept { four_of A.Pool.is_of B.Pool.is_of C.Pool.is_of D.Pool.is_of d.old bytes.now }
-                ensures value { DeserializesBy A.reads A.shape A.knows bytes.entry.now pos (λ q. q.0) result }
-                ensures keeps { IfOk result (λ _. four_of A.Pool.is_of B.Pool.is_of C.Pool.is_of D.Pool.is_of d.new bytes.entry.now) }
-            { deserialize_element::<T, A>(bytes, pos, alloc, &mut d.0) },
-            |d: &mut (A::Pool, B::Pool, C::Pool, D::Pool), pos: usize| -> Result<
-                (U, PhantomData<U::Archived>),
-                Error,
-            >
-                requires there { HasValue B.shape B.knows bytes.now pos }
-                requires kept { four_of A.Pool.is_of B.Pool.is_of C.Pool.is_of D.Pool.is_of d.old bytes.now }
-                ensures value { DeserializesBy B.reads B.shape B.knows bytes.entry.now pos (λ q. q.0) result }
-                ensures keeps { IfOk result (λ _. four_of A.Pool.is_of B.Pool.is_of C.Pool.is_of D.Pool.is_of d.new bytes.entry.now) }
-            { deserialize_element::<U, B>(bytes, pos, alloc, &mut d.1) },
-            |d: &mut (A::Pool, B::Pool, C::Pool, D::Pool), pos: usize| -> Result<
-                (V, PhantomData<V::Archived>),
-                Error,
-            >
-                requires there { HasValue C.shape C.knows bytes.now pos }
-                requires kept { four_of A.Pool.is_of B.Pool.is_of C.Pool.is_of D.Pool.is_of d.old bytes.now }
-                ensures value { DeserializesBy C.reads C.shape C.knows bytes.entry.now pos (λ q. q.0) result }
-                ensures keeps { IfOk result (λ _. four_of A.Pool.is_of B.Pool.is_of C.Pool.is_of D.Pool.is_of d.new bytes.entry.now) }
-            { deserialize_element::<V, C>(bytes, pos, alloc, &mut d.2) },
-            |d: &mut (A::Pool, B::Pool, C::Pool, D::Pool), pos: usize| -> Result<
-                (W, PhantomData<W::Archived>),
-                Error,
-            >
-                requires there { HasValue D.shape D.knows bytes.now pos }
-                requires kept { four_of A.Pool.is_of B.Pool.is_of C.Pool.is_of D.Pool.is_of d.old bytes.now }
-                ensures value { DeserializesBy D.reads D.shape D.knows bytes.entry.now pos (λ q. q.0) result }
-                ensures keeps { IfOk result (λ _. four_of A.Pool.is_of B.Pool.is_of C.Pool.is_of D.Pool.is_of d.new bytes.entry.now) }
-            { deserialize_element::<W, D>(bytes, pos, alloc, &mut d.3) },
-        )
+        let at = ArchivedTuple4::first(*this).pos;
+        let t = match deserialize_element::<T, A>(bytes, at, alloc, &mut deserializer.0) {
+            Ok(done) => done.0,
+            Err(e) => return Err(e),
+        };
+        let at = ArchivedTuple4::second(*this).pos;
+        let u = match deserialize_element::<U, B>(bytes, at, alloc, &mut deserializer.1) {
+            Ok(done) => done.0,
+            Err(e) => return Err(e),
+        };
+        let at = ArchivedTuple4::third(*this).pos;
+        let v = match deserialize_element::<V, C>(bytes, at, alloc, &mut deserializer.2) {
+            Ok(done) => done.0,
+            Err(e) => return Err(e),
+        };
+        let at = ArchivedTuple4::fourth(*this).pos;
+        let w = match deserialize_element::<W, D>(bytes, at, alloc, &mut deserializer.3) {
+            Ok(done) => done.0,
+            Err(e) => return Err(e),
+        };
+        Ok((t, u, v, w))
     }
 }

@@ -3,8 +3,7 @@ use archive_forms_values::{
     ArchivedBox, ArchivedOption, ArchivedResult, ArchivedTuple2, ArchivedTuple3, ArchivedTuple4,
     ArchivedVec, Entry,
 };
-use archive_shape::{ArchivedChar, ArchivedU16, ArchivedU32, ArchivedU64, Portable, Shape};
-use std::test::Fail;
+use archive_shape::{ArchivedChar, ArchivedU16, ArchivedU32, ArchivedU64, Portable, RelPtr, Str};
 
 #[test]
 fn sizes_and_alignments(rt: HostRuntime) {
@@ -49,18 +48,22 @@ fn sizes_and_alignments(rt: HostRuntime) {
         ),
     ];
     for (size, align, wanted_size, wanted_align) in rows {
-        assert!(rt; size == wanted_size);
-        assert!(rt; align == wanted_align);
+        assert!(rt; size == wanted_size && align == wanted_align);
     }
 }
 
 #[test]
-fn shapes_of_options_vectors_and_tuples(rt: HostRuntime) -> Result<(), Fail> {
-    let option = ArchivedOption::<bool>::shape(rt.alloc())?;
-    assert!(rt; matches!(option, Shape::Option(_)));
-    let vector = ArchivedVec::<bool>::shape(rt.alloc())?;
-    assert!(rt; matches!(vector, Shape::Vector(_)));
-    let tuple = ArchivedTuple2::<bool, u8>::shape(rt.alloc())?;
-    assert!(rt; matches!(tuple, Shape::Tuple(_)));
-    Ok(())
+fn shapes_are_made(rt: HostRuntime) {
+    let alloc = rt.alloc();
+    assert!(rt;
+        bool::shape(alloc).err().is_none()
+            && ArchivedChar::shape(alloc).err().is_none()
+            && <[ArchivedU16; 3]>::shape(alloc).err().is_none()
+            && <RelPtr<Str, ArchivedU32> as Portable>::shape(alloc)
+                .err()
+                .is_none()
+            && ArchivedOption::<bool>::shape(alloc).err().is_none()
+            && ArchivedVec::<bool>::shape(alloc).err().is_none()
+            && ArchivedTuple2::<bool, u8>::shape(alloc).err().is_none()
+    );
 }

@@ -11,6 +11,8 @@ fn vectors_texts_options_and_entries_as_native_values(rt: HostRuntime) {
     let bytes = b"...hello\xfb\xff\xff\xff\x05\0\0\0";
     assert!(rt; hashed_as::<ArchivedBoxedStr, &str>(alloc, bytes, 8, &"hello"));
     let none: Option<u8> = None;
-    assert!(rt; hashed_as::<ArchivedOption<u8>, Option<u8>>(alloc, b"\0\x09", 0, &none));
-    assert!(rt; hashed_as::<Entry<u8, bool>, (u8, bool)>(alloc, b"\x07\x01", 0, &(7, true)));
+    assert!(rt;
+        hashed_as::<ArchivedOption<u8>, Option<u8>>(alloc, b"\0\x09", 0, &none)
+            && hashed_as::<Entry<u8, bool>, (u8, bool)>(alloc, b"\x07\x01", 0, &(7, true))
+    );
 }

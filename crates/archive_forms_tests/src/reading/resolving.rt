@@ -15,8 +15,8 @@ fn boxes_are_offsets(rt: HostRuntime) {
         assert!(rt;
             ArchivedBox::<u8>::resolve_from_raw_parts(BoxResolver::from_pos(target), place)
                 == result
+                && out == bytes
         );
-        assert!(rt; out == bytes);
     }
 }
 
@@ -34,7 +34,7 @@ fn vectors_are_offsets_and_lengths(rt: HostRuntime) {
         let place = Place::new(&mut out, 8);
         assert!(rt;
             ArchivedVec::<u8>::resolve_from_len(len, VecResolver::from_pos(target), place) == result
+                && out == bytes
         );
-        assert!(rt; out == bytes);
     }
 }

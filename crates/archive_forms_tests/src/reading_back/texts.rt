@@ -1,6 +1,7 @@
 //! Tests of texts that are read back from bytes.
 use super::read_back;
-use archive_forms_values::{ArchivedOption, ArchivedString};
+use archive_forms_values::{ArchivedBoxedStr, ArchivedOption, ArchivedString};
+use std::boxed::BoxedStr;
 use std::test::Fail;
 
 #[test]
@@ -21,5 +22,13 @@ fn text_of_an_option_is_read_back(rt: HostRuntime) -> Result<(), Fail> {
         0,
     )?;
     assert!(rt; text.as_ref().map(|text| text.as_str()) == Some("hello"));
+    Ok(())
+}
+
+#[test]
+fn text_of_a_box_is_read_back(rt: HostRuntime) -> Result<(), Fail> {
+    let bytes = b"...hello\xfb\xff\xff\xff\x05\0\0\0";
+    let text = read_back::<BoxedStr, ArchivedBoxedStr>(rt.alloc(), bytes, 8, 1)?;
+    assert!(rt; text.as_str() == "hello");
     Ok(())
 }

@@ -1,7 +1,10 @@
 //! Tests of values that are read back from bytes.
 use super::read_back;
-use archive_forms_values::{ArchivedOption, ArchivedResult, ArchivedVec};
-use archive_shape::ArchivedU32;
+use archive_forms_values::{
+    ArchivedBox, ArchivedBoxedSlice, ArchivedOption, ArchivedResult, ArchivedVec,
+};
+use archive_shape::{ArchivedU16, ArchivedU32};
+use std::boxed::BoxedSlice;
 use std::test::Fail;
 
 #[test]
@@ -28,5 +31,31 @@ fn vector_of_options_is_read_back(rt: HostRuntime) -> Result<(), Fail> {
         1,
     )?;
     assert!(rt; items.as_slice() == [Some(7), None].as_slice());
+    Ok(())
+}
+
+#[test]
+fn array_of_a_box_is_read_back(rt: HostRuntime) -> Result<(), Fail> {
+    let bytes = b"\x05\0\0\0\xfc\xff\xff\xff";
+    let [value] = read_back::<[Box<u32>; 1], [ArchivedBox<ArchivedU32>; 1]>(
+        rt.alloc(),
+        bytes,
+        4,
+        1,
+    )?;
+    assert!(rt; *value == 5);
+    Ok(())
+}
+
+#[test]
+fn elements_of_a_box_are_read_back(rt: HostRuntime) -> Result<(), Fail> {
+    let bytes = b"\x05\0\x06\0\x07\0..\xf8\xff\xff\xff\x03\0\0\0";
+    let back = read_back::<BoxedSlice<u16>, ArchivedBoxedSlice<ArchivedU16>>(
+        rt.alloc(),
+        bytes,
+        8,
+        1,
+    )?;
+    assert!(rt; back.as_slice() == [5, 6, 7].as_slice());
     Ok(())
 }

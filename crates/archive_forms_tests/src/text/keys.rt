@@ -3,7 +3,6 @@ use super::checked::checked;
 use archive_forms_values::ArchivedString;
 use archive_shape::{ArchivedKey, Ref};
 use std::cmp::Ordering;
-use std::test::Fail;
 
 /// Returns whether a key is the text `query`, and the order of the key relative to it.
 fn compared<'q, K: ArchivedKey<&'q str>>(key: &Ref<'_, K>, query: &'q str) -> (bool, Ordering)
@@ -13,8 +12,10 @@ fn compared<'q, K: ArchivedKey<&'q str>>(key: &Ref<'_, K>, query: &'q str) -> (b
 }
 
 #[test]
-fn keys_inline(rt: HostRuntime) -> Result<(), Fail> {
-    let world = checked(rt.alloc(), b"world\xff\xff\xff", 0)?;
+fn keys_inline(rt: HostRuntime) {
+    let Ok(world) = checked(rt.alloc(), b"world\xff\xff\xff", 0) else {
+        panic!(rt; "refused");
+    };
     let rows = [
         ("world", true, Ordering::Equal),
         ("worl", false, Ordering::Greater),
@@ -25,13 +26,14 @@ fn keys_inline(rt: HostRuntime) -> Result<(), Fail> {
     for (query, same, order) in rows {
         assert!(rt; compared(&world, query) == (same, order));
     }
-    Ok(())
 }
 
 #[test]
-fn keys_out_of_line(rt: HostRuntime) -> Result<(), Fail> {
+fn keys_out_of_line(rt: HostRuntime) {
     let bytes = b"hello world!........\x8c\0\0\0\xec\xff\xff\xff";
-    let hello = checked(rt.alloc(), bytes, 20)?;
+    let Ok(hello) = checked(rt.alloc(), bytes, 20) else {
+        panic!(rt; "refused");
+    };
     let rows = [
         ("hello world!", true, Ordering::Equal),
         ("hello", false, Ordering::Greater),
@@ -42,5 +44,4 @@ fn keys_out_of_line(rt: HostRuntime) -> Result<(), Fail> {
     for (query, same, order) in rows {
         assert!(rt; compared(&hello, query) == (same, order));
     }
-    Ok(())
 }

@@ -1,7 +1,6 @@
 //! Tests of the reading of texts.
 use super::checked::checked;
 use archive_forms_values::{ArchivedString, ArchivedStringRepr};
-use std::test::Fail;
 
 #[test]
 fn lengths_of_texts(rt: HostRuntime) {
@@ -15,11 +14,14 @@ fn lengths_of_texts(rt: HostRuntime) {
         (*b"\xbf\xff\xff\xff\xf4\xff\xff\xff", 1_073_741_823),
     ];
     for (own, len) in rows {
-        assert!(rt; ArchivedStringRepr::len(&own) == len);
-        assert!(rt; ArchivedStringRepr::is_empty(&own) == (len == 0));
+        assert!(rt;
+            ArchivedStringRepr::len(&own) == len && ArchivedStringRepr::is_empty(&own) == (len == 0)
+        );
     }
-    assert!(rt; ArchivedStringRepr::OUT_OF_LINE_CAPACITY == 1_073_741_823);
-    assert!(rt; ArchivedStringRepr::INLINE_CAPACITY == 8);
+    assert!(rt;
+        ArchivedStringRepr::OUT_OF_LINE_CAPACITY == 1_073_741_823
+            && ArchivedStringRepr::INLINE_CAPACITY == 8
+    );
 }
 
 #[test]
@@ -51,14 +53,17 @@ fn offsets_of_texts(rt: HostRuntime) {
 }
 
 #[test]
-fn text_out_of_line_is_read(rt: HostRuntime) -> Result<(), Fail> {
-    let bytes = b"hello world!........\x8c\0\0\0\xec\xff\xff\xff";
-    let hello = checked(rt.alloc(), bytes, 20)?;
-    assert!(rt; ArchivedString::as_str(hello) == "hello world!");
-    assert!(rt; ArchivedString::as_bytes(hello) == "hello world!".as_bytes());
-    assert!(rt; ArchivedString::len(hello) == 12);
-    assert!(rt; !ArchivedString::is_empty(hello));
-    let ahead = checked(rt.alloc(), b"\x89\0\0\0\x08\0\0\0123456789", 0)?;
-    assert!(rt; ArchivedString::as_str(ahead) == "123456789");
-    Ok(())
+fn text_out_of_line_is_read(rt: HostRuntime) {
+    let bytes = b"\x8c\0\0\0\x08\0\0\0hello world!........\x8c\0\0\0\xec\xff\xff\xff";
+    for pos in [0, 28] {
+        let Ok(hello) = checked(rt.alloc(), bytes, pos) else {
+            panic!(rt; "refused");
+        };
+        assert!(rt;
+            ArchivedString::as_str(hello) == "hello world!"
+                && ArchivedString::as_bytes(hello) == "hello world!".as_bytes()
+                && ArchivedString::len(hello) == 12
+                && !ArchivedString::is_empty(hello)
+        );
+    }
 }

@@ -6,7 +6,6 @@ use super::checked::checked;
 use archive_forms_values::{ArchivedBoxedStr, ArchivedString, ArchivedStringRepr};
 use archive_shape::{Error, OwnSeal, Seal};
 use std::alloc::Global;
-use std::test::Fail;
 
 /// Writes a text over the one at `pos`, if it has as many bytes.
 fn written(alloc: Global, bytes: &mut [u8], pos: usize, text: &str) -> Result<bool, Error>
@@ -24,16 +23,19 @@ fn written(alloc: Global, bytes: &mut [u8], pos: usize, text: &str) -> Result<bo
 const LONG: [u8; 20] = *b"hello there.\x8c\0\0\0\xf4\xff\xff\xff";
 
 #[test]
-fn texts_are_written_over_others(rt: HostRuntime) -> Result<(), Fail> {
+fn texts_are_written_over_others(rt: HostRuntime) {
     let mut bytes = LONG;
-    assert!(rt; written(rt.alloc(), &mut bytes, 12, "HELLO THERE!") == Ok(true));
-    assert!(rt; bytes == *b"HELLO THERE!\x8c\0\0\0\xf4\xff\xff\xff");
-    assert!(rt; written(rt.alloc(), &mut bytes, 12, "HELLO") == Ok(false));
+    assert!(rt;
+        written(rt.alloc(), &mut bytes, 12, "HELLO THERE!") == Ok(true)
+            && bytes == *b"HELLO THERE!\x8c\0\0\0\xf4\xff\xff\xff"
+            && written(rt.alloc(), &mut bytes, 12, "HELLO") == Ok(false)
+    );
     let mut inline = *b"..world\xff\xff\xff";
-    assert!(rt; written(rt.alloc(), &mut inline, 2, "WORLD") == Ok(true));
-    assert!(rt; inline == *b"..WORLD\xff\xff\xff");
-    assert!(rt; written(rt.alloc(), &mut inline, 2, "WORLDS") == Ok(false));
-    Ok(())
+    assert!(rt;
+        written(rt.alloc(), &mut inline, 2, "WORLD") == Ok(true)
+            && inline == *b"..WORLD\xff\xff\xff"
+            && written(rt.alloc(), &mut inline, 2, "WORLDS") == Ok(false)
+    );
 }
 
 /// Puts a text over the one whose own bytes these are, if it has as many bytes.
@@ -47,13 +49,16 @@ fn put(own: &mut [u8; 8], text: &str) -> Result<bool, Error> {
 }
 
 #[test]
-fn texts_are_put_in_their_own_bytes(rt: HostRuntime) -> Result<(), Fail> {
+fn texts_are_put_in_their_own_bytes(rt: HostRuntime) {
     let mut own = *b"world\xff\xff\xff";
-    assert!(rt; put(&mut own, "WORLD") == Ok(true));
-    assert!(rt; own == *b"WORLD\xff\xff\xff");
-    assert!(rt; put(&mut own, "WORLDS") == Ok(false));
+    assert!(rt;
+        put(&mut own, "WORLD") == Ok(true)
+            && own == *b"WORLD\xff\xff\xff"
+            && put(&mut own, "WORLDS") == Ok(false)
+    );
     let mut far = *b"\x8c\0\0\0\xf4\xff\xff\xff";
-    assert!(rt; put(&mut far, "HELLO THERE!") == Err(Error::InvalidSubtreePointer { size: 12 }));
-    assert!(rt; far == *b"\x8c\0\0\0\xf4\xff\xff\xff");
-    Ok(())
+    assert!(rt;
+        put(&mut far, "HELLO THERE!") == Err(Error::InvalidSubtreePointer { size: 12 })
+            && far == *b"\x8c\0\0\0\xf4\xff\xff\xff"
+    );
 }

@@ -11,15 +11,17 @@ use archive_shape::{Error, Place};
 use std::alloc::Global;
 use std::test::Fail;
 
-/// Returns the result of writing numbers with the claimed number `len`, and the serializer.
+/// Returns whether writing numbers with the claimed number `len` returns `want` and writes `bytes`.
 fn written_with_claim(
     alloc: Global,
     numbers: Vec<u16>,
     len: usize,
-) -> (Result<VecResolver, Error>, MemorySerializer) {
+    want: Result<VecResolver, Error>,
+    bytes: &[u8],
+) -> bool {
     let mut serializer = MemorySerializer::new(alloc);
     let answer = serialize_from_iter(numbers, len, &mut serializer);
-    (answer, serializer)
+    answer == want && serializer.bytes() == bytes
 }
 
 /// Returns the own bytes of a vector of one number, which lies before them.
@@ -38,33 +40,24 @@ fn vector_of_one(alloc: Global, number: u32) -> Result<[u8; 8], Error> {
 }
 
 #[test]
-fn two_items_with_a_claim_of_two_are_written_as_those_of_a_vector(
+fn two_items_are_written_as_those_of_a_vector_if_two_are_claimed(
     rt: HostRuntime,
 ) -> Result<(), Fail> {
     let alloc = rt.alloc();
-    let numbers = vec![in alloc; 7u16, 258]?;
-    let (answer, serializer) = written_with_claim(alloc, numbers, 2);
-    assert!(rt; answer == Ok(VecResolver { pos: 0 }));
-    assert!(rt; serializer.bytes() == b"\x07\0\x02\x01".as_slice());
-    Ok(())
-}
-
-#[test]
-fn a_claim_of_another_number_is_refused_and_nothing_is_written(
-    rt: HostRuntime,
-) -> Result<(), Fail> {
-    let alloc = rt.alloc();
-    for expected in [0, 1, 3] {
+    for expected in [0, 1, 2, 3] {
         let numbers = vec![in alloc; 7u16, 258]?;
-        let (answer, serializer) = written_with_claim(alloc, numbers, expected);
-        assert!(rt;
-            answer
-                == Err(Error::IteratorLengthMismatch {
+        let (want, bytes) = if expected == 2 {
+            (Ok(VecResolver { pos: 0 }), b"\x07\0\x02\x01".as_slice())
+        } else {
+            (
+                Err(Error::IteratorLengthMismatch {
                     expected,
-                    actual: 2
-                })
-        );
-        assert!(rt; serializer.bytes().is_empty());
+                    actual: 2,
+                }),
+                b"".as_slice(),
+            )
+        };
+        assert!(rt; written_with_claim(alloc, numbers, expected, want, bytes));
     }
     Ok(())
 }

@@ -8,10 +8,12 @@ fn numbers_chars_truth_values_and_units(rt: HostRuntime) {
     let alloc = rt.alloc();
     assert!(rt; is_archived_as(alloc, &-2i16, b"\xfe\xff"));
     let wide = b"\xfe\xff\xff\xff\xff\xff\xff\xff\xff\xff\xff\xff\xff\xff\xff\xff";
-    assert!(rt; is_archived_as(alloc, &-2i128, wide));
-    assert!(rt; is_archived_as(alloc, &'\u{1f600}', b"\0\xf6\x01\0"));
-    assert!(rt; is_archived_as(alloc, &true, b"\x01"));
-    assert!(rt; is_archived_as(alloc, &(), b""));
+    assert!(rt;
+        is_archived_as(alloc, &-2i128, wide)
+            && is_archived_as(alloc, &'\u{1f600}', b"\0\xf6\x01\0")
+            && is_archived_as(alloc, &true, b"\x01")
+            && is_archived_as(alloc, &(), b"")
+    );
     let mark: PhantomData<u32> = PhantomData;
     assert!(rt; is_archived_as(alloc, &mark, b""));
 }
@@ -29,8 +31,10 @@ fn numbers_without_0(rt: HostRuntime) {
 #[test]
 fn sizes_of_at_most_four_bytes(rt: HostRuntime) {
     let alloc = rt.alloc();
-    assert!(rt; is_archived_as(alloc, &258usize, b"\x02\x01\0\0"));
-    assert!(rt; is_archived_as(alloc, &-2isize, b"\xfe\xff\xff\xff"));
-    assert!(rt; !is_archived_as(alloc, &(1usize << 32), b"\0\0\0\0"));
-    assert!(rt; !is_archived_as(alloc, &(1isize << 31), b"\0\0\0\x80"));
+    assert!(rt;
+        is_archived_as(alloc, &258usize, b"\x02\x01\0\0")
+            && is_archived_as(alloc, &-2isize, b"\xfe\xff\xff\xff")
+            && !is_archived_as(alloc, &(1usize << 32), b"\0\0\0\0")
+            && !is_archived_as(alloc, &(1isize << 31), b"\0\0\0\x80")
+    );
 }

@@ -31,8 +31,10 @@ fn is_boxed_behind<U: SerializeUnsized<MemorySerializer>>(
 #[test]
 fn a_box_of_a_borrowed_number(rt: HostRuntime) {
     let mut own = [0u8; 4];
-    assert!(rt; is_boxed_behind(rt.alloc(), &&258u32, b"\x02\x01\0\0", &mut own[..]));
-    assert!(rt; own == *b"\xf8\xff\xff\xff");
+    assert!(rt;
+        is_boxed_behind(rt.alloc(), &&258u32, b"\x02\x01\0\0", &mut own[..])
+            && own == *b"\xf8\xff\xff\xff"
+    );
 }
 
 #[test]
@@ -45,7 +47,6 @@ fn a_box_of_a_slice(rt: HostRuntime) {
             &&numbers[..],
             b"\x07\0\x02\x01\x09\0",
             &mut own[..]
-        )
+        ) && own == *b"\xf8\xff\xff\xff\x03\0\0\0"
     );
-    assert!(rt; own == *b"\xf8\xff\xff\xff\x03\0\0\0");
 }

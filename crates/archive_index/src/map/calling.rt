@@ -7,7 +7,7 @@ ghost use Rattle.archive_index.specs.Lookups.{LooksUpEntry, value_of, pair_of, f
 
 use crate::map::ArchivedIndexMap;
 use crate::map::search::{entry_at, search_with};
-use archive_hash::walking::value_position;
+use archive_hash::value_position;
 use archive_shape::{Portable, Ref};
 use std::hash::{Hash, Hasher};
 

@@ -17,7 +17,7 @@ use archive_forms::{
 };
 use archive_forms_values::{ArchivedTuple2, SliceRef};
 use archive_forms_writing::Archive;
-use archive_hash::walking::value_position;
+use archive_hash::value_position;
 use archive_shape::{Error, Ref};
 use std::alloc::Global;
 use std::marker::PhantomData;

@@ -11,7 +11,7 @@ ghost use Rattle.archive_hash.specs.HashWalking.Maps.{IsThere};
 
 use crate::map::ArchivedIndexMap;
 use archive_forms_values::{Entry, SliceRef, target_of};
-use archive_hash::walking::number_at;
+use archive_hash::number_at;
 use archive_shape::{Portable, Ref};
 use std::marker::PhantomData;
 

@@ -9,8 +9,7 @@ ghost use Rattle.archive_forms_writing.specs.FormsLaws.Sample.{number_shape};
 
 use crate::check_index_map_each;
 use archive_forms_values::Entry;
-use archive_hash::maps::ArchivedHashTable;
-use archive_hash::walking::number_at;
+use archive_hash::{ArchivedHashTable, number_at};
 use archive_shape::{
     ArchiveContext, ArchivedU32, CheckBytes, Error, NoUndef, Portable, Ref, Shape,
 };

@@ -8,7 +8,7 @@ ghost use Rattle.archive_shape.specs.ShapeLayout.Shape.Shape.{table};
 
 use crate::map::ArchivedIndexMap;
 use archive_forms_values::emplace_link;
-use archive_hash::maps::ArchivedHashTable;
+use archive_hash::ArchivedHashTable;
 use archive_index_spelling::IndexMapResolver;
 use archive_shape::{ArchivedU32, Place, Portable};
 use archive_shape_writing::Error;

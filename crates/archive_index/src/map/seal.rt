@@ -11,7 +11,7 @@ ghost use Rattle.archive_index.specs.Lookups.{LooksUpEntry, value_position_of};
 use crate::map::ArchivedIndexMap;
 use crate::map::search::{entry_at, search_key, search_with};
 use archive_forms_values::lend_entry;
-use archive_hash::walking::{HashedKey, value_position};
+use archive_hash::{HashedKey, value_position};
 use archive_shape::{OwnSeal, Portable, Ref, Seal};
 use std::hash::{Hash, Hasher};
 

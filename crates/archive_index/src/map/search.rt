@@ -10,7 +10,7 @@ ghost use Rattle.archive_index.specs.Lookups.{AnswersEntry, LooksUpEntry};
 
 use crate::map::entries::entries_at;
 use archive_forms_values::Entry;
-use archive_hash::walking::{HashedKey, number_at, search_table};
+use archive_hash::{HashedKey, number_at, search_table};
 use archive_hash_probing::{Group, Scan, hash_value};
 use archive_shape::{ArchivedU32, Portable, Ref};
 use std::hash::{Hash, Hasher};

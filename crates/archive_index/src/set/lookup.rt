@@ -10,7 +10,7 @@ ghost use Rattle.archive_index.specs.Sets.{HasSet, IsSet, unit_shape};
 use crate::map::ArchivedIndexMap;
 use crate::set::ArchivedIndexSet;
 use crate::set::set::as_map;
-use archive_hash::walking::HashedKey;
+use archive_hash::HashedKey;
 use archive_shape::{Portable, Ref};
 use std::hash::{Hash, Hasher};
 

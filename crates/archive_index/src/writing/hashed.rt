@@ -8,8 +8,7 @@ ghost use Rattle.archive_index_spelling.specs.Resolvers.{written_map};
 
 use crate::writing::numbers::numbers_below;
 use archive_forms_writing::{ArchiveWith, ByArchive, serialize_element, serialize_slice_with_each};
-use archive_hash::maps::HashTableResolver;
-use archive_hash::writing::serialize_hashed;
+use archive_hash::{HashTableResolver, serialize_hashed};
 use archive_hash_probing::{Scan, capacity_for_len};
 use archive_index_spelling::IndexMapResolver;
 use archive_shape::{Allocator, ArchivedU32, Error, Writer};

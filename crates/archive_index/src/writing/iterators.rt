@@ -9,7 +9,7 @@ ghost use Rattle.archive_index.specs.Written.{WritesMap};
 use crate::writing::hashed::serialize_hashed_map;
 use archive_forms_borrowed::collect_items;
 use archive_forms_writing::{Archive, ByArchive};
-use archive_hash::writing::hash_items;
+use archive_hash::hash_items;
 use archive_hash_probing::Scan;
 use archive_index_spelling::IndexMapResolver;
 use archive_shape::{Allocator, Error, Writer};

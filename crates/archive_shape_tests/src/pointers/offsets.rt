@@ -5,12 +5,11 @@ use archive_shape::{
     signed_offset,
 };
 use archive_shape_writing::Error;
-use std::test::Fail;
 
 const HALF: usize = 0x8000_0000_0000_0000;
 
 #[test]
-fn differences(rt: HostRuntime) -> Result<(), Fail> {
+fn differences(rt: HostRuntime) {
     for (from, to, want) in [
         (180, 0, Ok(-180)),
         (0, HALF, Err(Error::IsizeOverflow)),
@@ -19,40 +18,40 @@ fn differences(rt: HostRuntime) -> Result<(), Fail> {
     ] {
         assert!(rt; signed_offset(from, to) == want);
     }
-    Ok(())
 }
 
 #[test]
-fn offsets_of_one_byte(rt: HostRuntime) -> Result<(), Fail> {
-    for (offset, signed, unsigned) in [
-        (-129, None, None),
-        (-128, Some(-128), None),
-        (-1, Some(-1), None),
-        (0, Some(0), Some(0)),
-        (127, Some(127), Some(127)),
-        (128, None, Some(128)),
-        (255, None, Some(255)),
-        (256, None, None),
-    ] {
-        let signed = signed.ok_or(Error::IsizeOverflow);
-        let unsigned = unsigned.ok_or(Error::IsizeOverflow);
-        assert!(rt; i8::from_isize(offset) == signed);
-        assert!(rt; u8::from_isize(offset) == unsigned);
-    }
-    Ok(())
-}
-
-#[test]
-fn offsets_of_more_bytes_and_stored_offsets(rt: HostRuntime) -> Result<(), Fail> {
+fn offsets_of_one_byte(rt: HostRuntime) {
     let refused = Error::IsizeOverflow;
-    assert!(rt; ArchivedI16::from_isize(0x8000) == Err(refused));
-    assert!(rt; ArchivedU16::from_isize(0x8000) == Ok(0x8000));
-    assert!(rt; ArchivedI32::from_isize(0x8000_0000) == Err(refused));
-    assert!(rt; ArchivedU32::from_isize(-1) == Err(refused));
-    assert!(rt; ArchivedI64::from_isize(isize::MIN) == Ok(i64::MIN));
-    assert!(rt; ArchivedU64::from_isize(-1) == Err(refused));
-    assert!(rt; ArchivedU64::to_isize(u64::MAX) == -1);
-    assert!(rt; u8::to_isize(255) == 255);
-    assert!(rt; i8::to_isize(-128) == -128);
-    Ok(())
+    for (offset, signed, unsigned) in [
+        (-129, Err(refused), Err(refused)),
+        (-128, Ok(-128), Err(refused)),
+        (-1, Ok(-1), Err(refused)),
+        (0, Ok(0), Ok(0)),
+        (127, Ok(127), Ok(127)),
+        (128, Err(refused), Ok(128)),
+        (255, Err(refused), Ok(255)),
+        (256, Err(refused), Err(refused)),
+    ] {
+        assert!(rt; i8::from_isize(offset) == signed && u8::from_isize(offset) == unsigned);
+    }
+}
+
+#[test]
+fn offsets_of_more_bytes_and_stored_offsets(rt: HostRuntime) {
+    let refused = Error::IsizeOverflow;
+    assert!(rt;
+        ArchivedI16::from_isize(0x8000) == Err(refused)
+            && ArchivedU16::from_isize(0x8000) == Ok(0x8000)
+            && ArchivedI32::from_isize(0x8000_0000) == Err(refused)
+            && ArchivedU32::from_isize(-1) == Err(refused)
+            && ArchivedI64::from_isize(isize::MIN) == Ok(i64::MIN)
+            && ArchivedU64::from_isize(-1) == Err(refused)
+    );
+    let stored = (
+        ArchivedU64::to_isize(u64::MAX),
+        u8::to_isize(255),
+        i8::to_isize(-128),
+    );
+    assert!(rt; stored == (-1, 255, -128));
 }

@@ -1,15 +1,13 @@
 //! Tests of archived chars, by their codes.
 use archive_shape::{ArchivedChar, ArchivedLeaf};
-use std::test::Fail;
 
 #[test]
-fn chars_by_their_codes(rt: HostRuntime) -> Result<(), Fail> {
+fn chars_by_their_codes(rt: HostRuntime) {
     let mut word = [0u8; 4];
     ArchivedChar::store('é', &mut word);
-    assert!(rt; word.as_slice() == [0xe9, 0, 0, 0].as_slice());
     let wave = [0x4b, 0xf4, 1, 0];
     assert!(rt; ArchivedChar::accepts(&wave));
-    assert!(rt; ArchivedChar::read(&wave) == '\u{1f44b}');
+    assert!(rt; word == [0xe9, 0, 0, 0] && ArchivedChar::read(&wave) == '\u{1f44b}');
     // The codes from d800 to dfff, and those from 110000 on, are not codes of chars.
     let rows = [
         ([0xff, 0xd7, 0, 0], true),
@@ -22,5 +20,4 @@ fn chars_by_their_codes(rt: HostRuntime) -> Result<(), Fail> {
     for (own, is_char) in rows {
         assert!(rt; ArchivedChar::accepts(&own) == is_char);
     }
-    Ok(())
 }

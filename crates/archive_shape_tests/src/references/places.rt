@@ -4,7 +4,6 @@ ghost use Rattle.std.specs.Int.{w64, to_le_bytes, cast_unsigned};
 ghost use Rattle.archive_shape.specs.Bytes.{overwrite};
 
 use archive_shape::{ArchivedI64, ArchivedU16, Place};
-use std::test::Fail;
 
 // A caller that writes a field knows the whole struct afterwards.
 fn write_field(out: &mut [u8], pos: usize, number: i64)
@@ -26,34 +25,28 @@ fn write_two_bytes(out: &mut [u8], pos: usize, first: u8, second: u8)
 }
 
 #[test]
-fn fields_are_written_in_place(rt: HostRuntime) -> Result<(), Fail> {
+fn fields_are_written_in_place(rt: HostRuntime) {
     let mut bytes = [0u8; 16];
     write_two_bytes(&mut bytes, 32, 7, 0);
     write_field(&mut bytes, 32, -2);
-    assert!(rt;
-        bytes
-            == [
-                7, 0, 0, 0, 0, 0, 0, 0, 0xfe, 0xff, 0xff, 0xff, 0xff, 0xff, 0xff, 0xff
-            ]
-    );
+    let want = *b"\x07\0\0\0\0\0\0\0\xfe\xff\xff\xff\xff\xff\xff\xff";
+    assert!(rt; bytes == want);
     Place::<(u8, ArchivedI64)>::new(&mut bytes, 32)
         .field::<u8>(0)
         .write(5);
-    assert!(rt; bytes[0] == 5);
+    let number = bytes[0];
     Place::<bool>::within(&mut bytes, 0, 0).write(false);
-    assert!(rt; bytes[0] == 0);
-    Ok(())
+    assert!(rt; number == 5 && bytes[0] == 0);
 }
 
 #[test]
-fn elements_are_written_up_to_both_ends(rt: HostRuntime) -> Result<(), Fail> {
+fn elements_are_written_up_to_both_ends(rt: HostRuntime) {
     let mut bytes = [0u8; 6];
     let last = Place::<[ArchivedU16; 3]>::new(&mut bytes, 32).index(2);
-    assert!(rt; last.pos() == 36);
+    let end = last.pos();
     last.write(0x0605);
     let first = Place::<[ArchivedU16; 3]>::new(&mut bytes, 32).index(0);
-    assert!(rt; first.pos() == 32);
+    let start = first.pos();
     first.write(0x0201);
-    assert!(rt; bytes == [1, 2, 0, 0, 5, 6]);
-    Ok(())
+    assert!(rt; (start, end) == (32, 36) && bytes == [1, 2, 0, 0, 5, 6]);
 }

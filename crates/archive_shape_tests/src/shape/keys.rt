@@ -16,7 +16,7 @@ fn compare_number(bytes: &[u8], pos: usize, query: u32) -> Ordering
 }
 
 #[test]
-fn keys_are_compared_with_queries(rt: HostRuntime) {
+fn number_keys(rt: HostRuntime) {
     let bytes = [9, 0x2c, 1, 0, 0];
     let rows = [
         (299, false, Ordering::Greater),
@@ -25,20 +25,24 @@ fn keys_are_compared_with_queries(rt: HostRuntime) {
     ];
     let key = Ref::<ArchivedU32>::new(&bytes, 1);
     for (query, same, order) in rows {
-        assert!(rt; compare_number(&bytes, 1, query) == order);
-        assert!(rt; ArchivedU32::same(&key, &query) == same);
+        let answers = (
+            ArchivedU32::same(&key, &query),
+            compare_number(&bytes, 1, query),
+        );
+        assert!(rt; answers == (same, order));
     }
-    let signed = Ref::<ArchivedI32>::new(&[0xff; 4], 0);
-    assert!(rt; ArchivedI32::same(&signed, &-1));
-    assert!(rt; ArchivedI32::compare(&signed, &0) == Ordering::Less);
 }
 
 #[test]
 #[tactic(auto, unfolding(archive_shape_layout::specs::Content::is_scalar, archive_shape_layout::specs::Bytes::word_at))]
-fn char_keys(rt: HostRuntime) {
-    let bytes = [0x6b, 0, 0, 0];
-    let key = Ref::<ArchivedChar>::new(&bytes, 0);
-    assert!(rt; ArchivedChar::same(&key, &'k'));
-    assert!(rt; !ArchivedChar::same(&key, &'K'));
-    assert!(rt; ArchivedChar::compare(&key, &'z') == Ordering::Less);
+fn signed_and_char_keys(rt: HostRuntime) {
+    let signed = Ref::<ArchivedI32>::new(&[0xff; 4], 0);
+    let key = Ref::<ArchivedChar>::new(&[0x6b, 0, 0, 0], 0);
+    assert!(rt;
+        ArchivedI32::same(&signed, &-1)
+            && ArchivedI32::compare(&signed, &0) == Ordering::Less
+            && ArchivedChar::same(&key, &'k')
+            && !ArchivedChar::same(&key, &'K')
+            && ArchivedChar::compare(&key, &'z') == Ordering::Less
+    );
 }

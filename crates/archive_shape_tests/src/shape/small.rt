@@ -3,7 +3,8 @@ use archive_shape::CopyOptimization;
 
 #[test]
 fn copy_is_enabled_or_not(rt: HostRuntime) {
-    assert!(rt; CopyOptimization::<u8>::enable().is_enabled());
-    assert!(rt; !CopyOptimization::<bool>::disable().is_enabled());
-    assert!(rt; CopyOptimization::<u8>::enable_if(true).is_enabled());
+    let enabled = CopyOptimization::<u8>::enable().is_enabled();
+    let disabled = CopyOptimization::<bool>::disable().is_enabled();
+    let allowed = CopyOptimization::<u8>::enable_if(true).is_enabled();
+    assert!(rt; enabled && !disabled && allowed);
 }

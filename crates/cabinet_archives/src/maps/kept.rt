@@ -24,8 +24,7 @@ use archive_hash_maps::ArchivedHashTable;
 use archive_hash_probing::{FxHasher64, Scan, hash_text, tag_of};
 use archive_hash_walking::number_at;
 use archive_shape::{Ref, Steps};
-use cabinet_archived::ArchivedNode;
-use cabinet_archived::index::{ArchivedIndexMap, search_entries};
+use cabinet_archived::{ArchivedIndexMap, ArchivedNode, search_entries};
 
 /// The index map of nodes under texts.
 pub(crate) type KeptMap = ArchivedIndexMap<ArchivedString, ArchivedNode, FxHasher64>;

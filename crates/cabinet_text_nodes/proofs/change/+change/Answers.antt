@@ -1,21 +1,17 @@
 use Rattle.std.proofs.Common.{◌≡◌, List, arith, [], ◌∷◌, ap, sym, ◌∙◌, refl, subst, ◌<◌, length, Some, None, MutBor}
 use Rattle.cabinet_text_nodes.specs.declared.node.Node.{Node}
 use Rattle.cabinet_text_grammar.specs.Keys.{ordered, hashed, kept}
-use Rattle.cabinet_text_grammar.specs.Tree.{just, map, IsLegal}
+use Rattle.cabinet_text_grammar.specs.Tree.{just, list, map, IsLegal}
 use Rattle.cabinet_text_grammar.specs.Path.{key}
 use Rattle.cabinet_text_nodes.specs.Answers.{place_by}
-use Rattle.cabinet_text_nodes.specs.View.{lent_leaf, node_tree, node_pairs, table_of, step_of, path_of}
+use Rattle.cabinet_text_nodes.specs.View.{lent_leaf, node_tree, node_trees, node_pairs, table_of, step_of, path_of}
 use Rattle.std.specs.Box.{with_value}
 use Rattle.cabinet_text_nodes.specs.declared.node.Node.TheVariants as node_of
-use Rattle.cabinet_text_nodes.proofs.Views.{node_tree-some, node_tree-ordered, node_tree-hashed, node_tree-kept}
-use Rattle.cabinet_text_nodes.proofs.Paths.{item_found, legal_element, legal_pair, legal_value}
+use Rattle.cabinet_text_nodes.proofs.Views.{node_tree-some, node_tree-list, node_tree-ordered, node_tree-hashed, node_tree-kept}
+use Rattle.cabinet_text_nodes.proofs.Paths.{no_items, item_found, legal_element, legal_pair, legal_value}
 use Rattle.std.proofs.lemmas.Option.{slice_get-get_or}
 use Rattle.cabinet_text_nodes.proofs.Changes.{sets-moved, sets_nothing, sets_inside, sets_element, sets_value, sets_no_element, sets_no_value, sets_kept_value, unplaced, place_same}
 use Rattle.cabinet_text_nodes.proofs.change.+change.Goals as goal
-
-is_empty : {A : Type 0} (xs : List A) → length xs ≡ 0 → xs ≡ []
-is_empty [] h = refl
-is_empty (x ∷ xs) h = absurd (omega (arith, h))
 
 pub change_at-returns-in-Ordered : goal.change_at-returns-in-Ordered
 unfolding Rattle.cabinet_text_nodes.specs.declared.node.Node.TheViews.out-Node denote.Hole.Carrier.out
@@ -88,7 +84,7 @@ change_inside-returns t c table legal =
     (sets_inside (table_of c.args.wholes.now) (path_of c.args.rest.now) (lent_leaf c.args.leaf) (c.change_at.ensures table (subst IsLegal here legal)))
 
 pub change_at-returns-in_default : goal.change_at-returns-in_default
-change_at-returns-in_default t c table legal = sets-moved refl (ap path_of (is_empty c.args.path.now c.in_default.ensures.cases)) refl (c.put_leaf.ensures (table_of c.args.wholes.now))
+change_at-returns-in_default t c table legal = sets-moved refl (ap path_of (no_items c.args.path.now c.in_default.ensures.cases)) refl (c.put_leaf.ensures (table_of c.args.wholes.now))
 
 pub change_at-returns-in-Whole : goal.change_at-returns-in-Whole
 unfolding Rattle.cabinet_text_nodes.specs.declared.node.Node.TheViews.out-Node denote.Hole.Carrier.out
@@ -96,3 +92,17 @@ change_at-returns-in-Whole t c table legal =
     let same = ap (λ n. node_tree (table_of c.args.wholes.now) (node_of.Whole n)) (sym c.in-Whole.number-is) in
     let whole_legal = subst IsLegal same (subst (λ n. IsLegal (node_tree (table_of c.args.wholes.now) n)) c.in-Whole.is legal) in
     rw c.in-Whole.is (sets-moved same (ap path_of c.in-Some.ensures.cases.0) same (c.refuse_in_whole.ensures table whole_legal (lent_leaf c.args.leaf)))
+
+pub change_at-returns-in-Maybe : goal.change_at-returns-in-Maybe
+unfolding Rattle.cabinet_text_nodes.specs.declared.node.Node.TheViews.out-Node denote.Hole.Carrier.out
+change_at-returns-in-Maybe t c table legal =
+    let same = ap (λ o. node_tree (table_of c.args.wholes.now) (node_of.Maybe o)) (sym c.in-Maybe.content-is) in
+    let option_legal = subst IsLegal same (subst (λ n. IsLegal (node_tree (table_of c.args.wholes.now) n)) c.in-Maybe.is legal) in
+    rw c.in-Maybe.is (sets-moved same (ap path_of c.in-Some.ensures.cases.0) refl (c.change_inside.ensures table option_legal))
+
+pub change_at-returns-in-List : goal.change_at-returns-in-List
+unfolding Rattle.cabinet_text_nodes.specs.declared.node.Node.TheViews.out-Node denote.Hole.Carrier.out
+change_at-returns-in-List t c table legal =
+    let same = node_tree-list (table_of c.args.wholes.now) c.in-List.elements ∙ ap (λ v. list (node_trees (table_of c.args.wholes.now) v.items)) (sym c.in-List.elements-is) in
+    let list_legal = subst IsLegal same (subst (λ n. IsLegal (node_tree (table_of c.args.wholes.now) n)) c.in-List.is legal) in
+    rw c.in-List.is (sets-moved same (ap path_of c.in-Some.ensures.cases.0) (node_tree-list (table_of c.args.wholes.now) c.change_element.new.elements) (c.change_element.ensures table list_legal))

@@ -1,8 +1,9 @@
 use Rattle.std.proofs.Common.{◌+◌, ◌<◌, ◌^◌, length, drop, arith, ap, refl, sym, subst}
 use Rattle.std.proofs.lemmas.Bool.{true≢false}
-use Rattle.cabinet_text_nodes.specs.Faults.{NodeFaults}
+use Rattle.cabinet_text_nodes.specs.Faults.{NodeFault, NodeFaults}
+use Rattle.cabinet_text_nodes.specs.declared.node.Node.TheVariants as node
 use Rattle.cabinet_text_nodes.proofs.Faults.{values}
-use Rattle.cabinet_text_nodes.proofs.NodeFaults.{fault_before_more, fault_before_none, list_node_fault, ordered_fault, hashed_fault, kept_once_fault, kept_twice_fault, text_fault, shared_fault, nodes_from, values_from, no_nodes, no_values}
+use Rattle.cabinet_text_nodes.proofs.NodeFaults.{fault_before_more, fault_before_none, none_fault, some_fault, list_node_fault, ordered_fault, hashed_fault, kept_once_fault, kept_twice_fault, text_fault, shared_fault, nodes_from, values_from, no_nodes, no_values}
 use Rattle.cabinet_text_nodes.proofs.fault.+faults.Goals as goal
 
 pub fault_among-loop-node-preserved : goal.fault_among-loop-node-preserved
@@ -77,3 +78,31 @@ fault_of-returns-in-Text t c = text_fault c.args.depths.now c.args.room c.args.n
 
 pub fault_of-returns-in-Shared : goal.fault_of-returns-in-Shared
 fault_of-returns-in-Shared t c = shared_fault c.args.depths.now c.args.room c.args.node.now c.in-Shared.field-0 c.in-Shared.is
+
+pub fault_in_option-returns-in-Some : goal.fault_in_option-returns-in-Some
+fault_in_option-returns-in-Some t c =
+    let inner = c.inside-room.result in
+    subst (λ o. NodeFault c.args.depths.now c.args.room (node.Maybe o) c.worse.result) (sym c.in-Some.is) (some_fault c.args.depths.now c.args.room inner.0 inner.1 c.fault_of.result c.worse.result c.in-Some.node c.inside-room.ensures (rw (← c.deref.ensures) c.fault_of.ensures) c.worse.ensures)
+
+pub fault_in_option-returns-in-None : goal.fault_in_option-returns-in-None
+fault_in_option-returns-in-None t c =
+    let inner = c.inside-room.result in
+    subst (λ o. NodeFault c.args.depths.now c.args.room (node.Maybe o) inner.1) (sym c.in-None.is) (none_fault c.args.depths.now c.args.room inner.0 inner.1 c.inside-room.ensures)
+
+pub fault_of-returns-in-Maybe : goal.fault_of-returns-in-Maybe
+fault_of-returns-in-Maybe t c = subst (λ n. NodeFault c.args.depths.now c.args.room n c.fault_in_option.result) (sym c.in-Maybe.is) c.fault_in_option.ensures
+
+pub fault_of-returns-in-List : goal.fault_of-returns-in-List
+fault_of-returns-in-List t c = subst (λ n. NodeFault c.args.depths.now c.args.room n c.fault_in_list.result) (sym c.in-List.is) c.fault_in_list.ensures
+
+pub fault_of-returns-in-Ordered : goal.fault_of-returns-in-Ordered
+fault_of-returns-in-Ordered t c = subst (λ n. NodeFault c.args.depths.now c.args.room n c.fault_in_map.result) (sym c.in-Ordered.is) c.fault_in_map.ensures.ordered
+
+pub fault_of-returns-in-Hashed : goal.fault_of-returns-in-Hashed
+fault_of-returns-in-Hashed t c = subst (λ n. NodeFault c.args.depths.now c.args.room n c.fault_in_map-in-Hashed.result) (sym c.in-Hashed.is) c.fault_in_map-in-Hashed.ensures.hashed
+
+pub fault_of-returns-in-Kept : goal.fault_of-returns-in-Kept
+fault_of-returns-in-Kept t c = subst (λ n. NodeFault c.args.depths.now c.args.room n c.fault_in_kept.result) (sym c.in-Kept.is) c.fault_in_kept.ensures
+
+pub fault_of-returns-in-Whole : goal.fault_of-returns-in-Whole
+fault_of-returns-in-Whole t c = subst (λ n. NodeFault c.args.depths.now c.args.room n c.fault_of_whole.result) (sym c.in-Whole.is) c.fault_of_whole.ensures

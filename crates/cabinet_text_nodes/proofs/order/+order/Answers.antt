@@ -124,3 +124,9 @@ pub walk_whole-returns-else-complete-number : goal.walk_whole-returns-else-compl
 walk_whole-returns-else-complete-number t c =
     let there = node_found c.args.wholes.now c.args.number c.in_ok-node.node c.in_ok-node.ensures.lookup in
     walked_too_soon c.args.wholes.now c.args.number c.in_ok-node.node.now c.args.next there c.if-number-next.false c.in_ok-complete.complete c.if-complete-number.false c.in_ok-complete.ensures
+
+pub walk_node-returns-in-Maybe : goal.walk_node-returns-in-Maybe
+walk_node-returns-in-Maybe t c = subst (λ n. WalksNode c.args.wholes.now n c.args.next c.walk_option.result) (sym c.in-Maybe.is) c.walk_option.ensures
+
+pub walk_node-returns-in-Whole : goal.walk_node-returns-in-Whole
+walk_node-returns-in-Whole t c = subst (λ n. WalksNode c.args.wholes.now n c.args.next c.walk_whole.result) (sym c.in-Whole.is) c.walk_whole.ensures

@@ -61,3 +61,9 @@ returns-in_err-text-2-clause-memory c =
     let p = err_from_is_err_and c.from_residual-in_err-text-2.result c.from_residual-in_err-text-2.ensures.1 in
     let line = after_word _ _ _ (codes "shared '") _ c.as_bytes-bytes.ensures.value c.as_slice-2.ensures c.in-Some-after_prefix.ensures in
     rw (p.1, p.2) (λ is. shared_in_memory c.args.line.now c.in-Some-after_prefix.argument.now _ line c.in_err-text-2.ensures.fault is)
+
+pub returns-in-Some-read_truth-clause-fault : goal.returns-in-Some-read_truth-clause-fault
+returns-in-Some-read_truth-clause-fault c table are is_table = tt
+
+pub returns-in-Some-read_truth-clause-memory : goal.returns-in-Some-read_truth-clause-memory
+returns-in-Some-read_truth-clause-memory c = tt

@@ -1,4 +1,4 @@
-use Rattle.std.proofs.Common.{arith, ℕ, List, refl, ap, subst}
+use Rattle.std.proofs.Common.{rules, arith, ℕ, List, refl, ap, subst}
 use Rattle.archive_forms.specs.Deserializing.{IsReadAt}
 use Rattle.archive_forms.proofs.Counted.{rc_has, rc_before, rc_read}
 use Rattle.archive_forms.proofs.deserializing.shared.deserialize_rc_each.Goals as goal
@@ -17,3 +17,12 @@ returns-in-Ok-clause-value g c =
     let P : List ℕ → Type 0 = λ bytes. IsReadAt g.A.ReadBack.reads g.A.Portable.shape g.A.Portable.knows bytes c.get-target.result.pos c.in-Ok.value.value in
     rc_read g.A.Portable.shape g.A.Portable.knows c.args.this.bytes.now c.args.this.pos _ c.get-target.ensures.value g.A.ReadBack.reads _ _ refl
     (subst P (ap (λ bytes. bytes.now) c.get-target.ensures.bytes) c.in-Ok.ensures.value)
+
+pub returns-in-Ok-clause-key : goal.returns-in-Ok-clause-key
+returns-in-Ok-clause-key g c = search rules
+
+pub returns-in-Ok-clause-pooled : goal.returns-in-Ok-clause-pooled
+returns-in-Ok-clause-pooled g c = search rules
+
+pub returns-in-Ok-clause-unread : goal.returns-in-Ok-clause-unread
+returns-in-Ok-clause-unread g c = search rules

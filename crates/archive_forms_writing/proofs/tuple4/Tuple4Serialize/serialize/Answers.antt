@@ -1,0 +1,203 @@
+use Rattle.std.proofs.Common.{arith, ap}
+use Rattle.archive_shape_writing.specs.Writing.{WriterMembers}
+use Rattle.archive_forms_laws.specs.Fields.{no_fields, more_fields}
+use Rattle.archive_forms_writing.proofs.Structs.{reached_none, reached_next, reached_stopped, reached_all}
+use Rattle.archive_forms_writing.proofs.tuple4.Tuple4Serialize.serialize.Goals as goal
+
+pub returns-in-Err : goal.returns-in-Err
+returns-in-Err g c = λ st at.
+    let m : WriterMembers g.row.S.Denot = record { known = g.S.Registry.known; pos = g.S.Positional.pos; OBSERVABLE = g.S.Writer.OBSERVABLE; COUNTS = g.S.Writer.COUNTS; contents = g.S.Writer.contents; failures = g.S.Writer.failures; last_error = g.S.Writer.last_error } in
+    let from_fourth = more_fields g.D.Archived.Portable.shape g.D.Archive.spelling no_fields in
+    let from_third = more_fields g.C.Archived.Portable.shape g.C.Archive.spelling from_fourth in
+    let from_second = more_fields g.B.Archived.Portable.shape g.B.Archive.spelling from_third in
+    let all = more_fields g.A.Archived.Portable.shape g.A.Archive.spelling from_second in
+    let x : g.row.A.Denot × (g.row.B.Denot × (g.row.C.Denot × (g.row.D.Denot × Unit {0}))) = (c.args.self.now.0, (c.args.self.now.1, (c.args.self.now.2, (c.args.self.now.3, tt {0})))) in
+    let old = c.args.serializer.now in
+    let none = reached_none m all x old st at in
+    reached_stopped m all x old st g.A.Archived.Portable.shape g.A.Archive.spelling from_second x _ st old none _ _ (c.in-Err.ensures st at)
+
+pub serialize-requires-2-clause-room : goal.serialize-requires-2-clause-room
+serialize-requires-2-clause-room g c =
+    let m : WriterMembers g.row.S.Denot = record { known = g.S.Registry.known; pos = g.S.Positional.pos; OBSERVABLE = g.S.Writer.OBSERVABLE; COUNTS = g.S.Writer.COUNTS; contents = g.S.Writer.contents; failures = g.S.Writer.failures; last_error = g.S.Writer.last_error } in
+    let from_fourth = more_fields g.D.Archived.Portable.shape g.D.Archive.spelling no_fields in
+    let from_third = more_fields g.C.Archived.Portable.shape g.C.Archive.spelling from_fourth in
+    let from_second = more_fields g.B.Archived.Portable.shape g.B.Archive.spelling from_third in
+    let all = more_fields g.A.Archived.Portable.shape g.A.Archive.spelling from_second in
+    let x : g.row.A.Denot × (g.row.B.Denot × (g.row.C.Denot × (g.row.D.Denot × Unit {0}))) = (c.args.self.now.0, (c.args.self.now.1, (c.args.self.now.2, (c.args.self.now.3, tt {0})))) in
+    let old = c.args.serializer.now in
+    let room = c.requires.room in
+    let st = c.requires.state.state in
+    let at = c.requires.state.is_at in
+    let none = reached_none m all x old st at in
+    let by_first = c.in-Ok.ensures st at in
+    let one = reached_next m all x old st g.A.Archived.Portable.shape g.A.Archive.spelling from_second x _ st old none _ _ by_first.0 by_first.1.0 by_first.1.1 by_first.1.2 in
+    let quiet_one = one.wrote.is_quiet in
+    omega arith
+
+pub serialize-requires-2-clause-state : goal.serialize-requires-2-clause-state
+serialize-requires-2-clause-state g c =
+    let m : WriterMembers g.row.S.Denot = record { known = g.S.Registry.known; pos = g.S.Positional.pos; OBSERVABLE = g.S.Writer.OBSERVABLE; COUNTS = g.S.Writer.COUNTS; contents = g.S.Writer.contents; failures = g.S.Writer.failures; last_error = g.S.Writer.last_error } in
+    let from_fourth = more_fields g.D.Archived.Portable.shape g.D.Archive.spelling no_fields in
+    let from_third = more_fields g.C.Archived.Portable.shape g.C.Archive.spelling from_fourth in
+    let from_second = more_fields g.B.Archived.Portable.shape g.B.Archive.spelling from_third in
+    let all = more_fields g.A.Archived.Portable.shape g.A.Archive.spelling from_second in
+    let x : g.row.A.Denot × (g.row.B.Denot × (g.row.C.Denot × (g.row.D.Denot × Unit {0}))) = (c.args.self.now.0, (c.args.self.now.1, (c.args.self.now.2, (c.args.self.now.3, tt {0})))) in
+    let old = c.args.serializer.now in
+    let st = c.requires.state.state in
+    let at = c.requires.state.is_at in
+    let none = reached_none m all x old st at in
+    let by_first = c.in-Ok.ensures st at in
+    let one = reached_next m all x old st g.A.Archived.Portable.shape g.A.Archive.spelling from_second x _ st old none _ _ by_first.0 by_first.1.0 by_first.1.1 by_first.1.2 in
+    record { state = _; is_at = one.is_at }
+
+pub returns-in-Err-serialize : goal.returns-in-Err-serialize
+returns-in-Err-serialize g c = λ st at.
+    let m : WriterMembers g.row.S.Denot = record { known = g.S.Registry.known; pos = g.S.Positional.pos; OBSERVABLE = g.S.Writer.OBSERVABLE; COUNTS = g.S.Writer.COUNTS; contents = g.S.Writer.contents; failures = g.S.Writer.failures; last_error = g.S.Writer.last_error } in
+    let from_fourth = more_fields g.D.Archived.Portable.shape g.D.Archive.spelling no_fields in
+    let from_third = more_fields g.C.Archived.Portable.shape g.C.Archive.spelling from_fourth in
+    let from_second = more_fields g.B.Archived.Portable.shape g.B.Archive.spelling from_third in
+    let all = more_fields g.A.Archived.Portable.shape g.A.Archive.spelling from_second in
+    let x : g.row.A.Denot × (g.row.B.Denot × (g.row.C.Denot × (g.row.D.Denot × Unit {0}))) = (c.args.self.now.0, (c.args.self.now.1, (c.args.self.now.2, (c.args.self.now.3, tt {0})))) in
+    let old = c.args.serializer.now in
+    let none = reached_none m all x old st at in
+    let by_first = c.in-Ok.ensures st at in
+    let one = reached_next m all x old st g.A.Archived.Portable.shape g.A.Archive.spelling from_second x _ st old none _ _ by_first.0 by_first.1.0 by_first.1.1 by_first.1.2 in
+    reached_stopped m all x old st g.B.Archived.Portable.shape g.B.Archive.spelling from_third x.1 _ _ _ one _ _ (c.in-Err-serialize.ensures _ one.is_at)
+
+pub serialize-requires-3-clause-room : goal.serialize-requires-3-clause-room
+serialize-requires-3-clause-room g c =
+    let m : WriterMembers g.row.S.Denot = record { known = g.S.Registry.known; pos = g.S.Positional.pos; OBSERVABLE = g.S.Writer.OBSERVABLE; COUNTS = g.S.Writer.COUNTS; contents = g.S.Writer.contents; failures = g.S.Writer.failures; last_error = g.S.Writer.last_error } in
+    let from_fourth = more_fields g.D.Archived.Portable.shape g.D.Archive.spelling no_fields in
+    let from_third = more_fields g.C.Archived.Portable.shape g.C.Archive.spelling from_fourth in
+    let from_second = more_fields g.B.Archived.Portable.shape g.B.Archive.spelling from_third in
+    let all = more_fields g.A.Archived.Portable.shape g.A.Archive.spelling from_second in
+    let x : g.row.A.Denot × (g.row.B.Denot × (g.row.C.Denot × (g.row.D.Denot × Unit {0}))) = (c.args.self.now.0, (c.args.self.now.1, (c.args.self.now.2, (c.args.self.now.3, tt {0})))) in
+    let old = c.args.serializer.now in
+    let room = c.requires.room in
+    let st = c.requires.state.state in
+    let at = c.requires.state.is_at in
+    let none = reached_none m all x old st at in
+    let by_first = c.in-Ok.ensures st at in
+    let one = reached_next m all x old st g.A.Archived.Portable.shape g.A.Archive.spelling from_second x _ st old none _ _ by_first.0 by_first.1.0 by_first.1.1 by_first.1.2 in
+    let quiet_one = one.wrote.is_quiet in
+    let by_second = c.in-Ok-serialize.ensures _ one.is_at in
+    let two = reached_next m all x old st g.B.Archived.Portable.shape g.B.Archive.spelling from_third x.1 _ _ _ one _ _ by_second.0 by_second.1.0 by_second.1.1 by_second.1.2 in
+    let quiet_two = two.wrote.is_quiet in
+    omega arith
+
+pub serialize-requires-3-clause-state : goal.serialize-requires-3-clause-state
+serialize-requires-3-clause-state g c =
+    let m : WriterMembers g.row.S.Denot = record { known = g.S.Registry.known; pos = g.S.Positional.pos; OBSERVABLE = g.S.Writer.OBSERVABLE; COUNTS = g.S.Writer.COUNTS; contents = g.S.Writer.contents; failures = g.S.Writer.failures; last_error = g.S.Writer.last_error } in
+    let from_fourth = more_fields g.D.Archived.Portable.shape g.D.Archive.spelling no_fields in
+    let from_third = more_fields g.C.Archived.Portable.shape g.C.Archive.spelling from_fourth in
+    let from_second = more_fields g.B.Archived.Portable.shape g.B.Archive.spelling from_third in
+    let all = more_fields g.A.Archived.Portable.shape g.A.Archive.spelling from_second in
+    let x : g.row.A.Denot × (g.row.B.Denot × (g.row.C.Denot × (g.row.D.Denot × Unit {0}))) = (c.args.self.now.0, (c.args.self.now.1, (c.args.self.now.2, (c.args.self.now.3, tt {0})))) in
+    let old = c.args.serializer.now in
+    let st = c.requires.state.state in
+    let at = c.requires.state.is_at in
+    let none = reached_none m all x old st at in
+    let by_first = c.in-Ok.ensures st at in
+    let one = reached_next m all x old st g.A.Archived.Portable.shape g.A.Archive.spelling from_second x _ st old none _ _ by_first.0 by_first.1.0 by_first.1.1 by_first.1.2 in
+    let by_second = c.in-Ok-serialize.ensures _ one.is_at in
+    let two = reached_next m all x old st g.B.Archived.Portable.shape g.B.Archive.spelling from_third x.1 _ _ _ one _ _ by_second.0 by_second.1.0 by_second.1.1 by_second.1.2 in
+    record { state = _; is_at = two.is_at }
+
+pub returns-in-Err-serialize-2 : goal.returns-in-Err-serialize-2
+returns-in-Err-serialize-2 g c = λ st at.
+    let m : WriterMembers g.row.S.Denot = record { known = g.S.Registry.known; pos = g.S.Positional.pos; OBSERVABLE = g.S.Writer.OBSERVABLE; COUNTS = g.S.Writer.COUNTS; contents = g.S.Writer.contents; failures = g.S.Writer.failures; last_error = g.S.Writer.last_error } in
+    let from_fourth = more_fields g.D.Archived.Portable.shape g.D.Archive.spelling no_fields in
+    let from_third = more_fields g.C.Archived.Portable.shape g.C.Archive.spelling from_fourth in
+    let from_second = more_fields g.B.Archived.Portable.shape g.B.Archive.spelling from_third in
+    let all = more_fields g.A.Archived.Portable.shape g.A.Archive.spelling from_second in
+    let x : g.row.A.Denot × (g.row.B.Denot × (g.row.C.Denot × (g.row.D.Denot × Unit {0}))) = (c.args.self.now.0, (c.args.self.now.1, (c.args.self.now.2, (c.args.self.now.3, tt {0})))) in
+    let old = c.args.serializer.now in
+    let none = reached_none m all x old st at in
+    let by_first = c.in-Ok.ensures st at in
+    let one = reached_next m all x old st g.A.Archived.Portable.shape g.A.Archive.spelling from_second x _ st old none _ _ by_first.0 by_first.1.0 by_first.1.1 by_first.1.2 in
+    let by_second = c.in-Ok-serialize.ensures _ one.is_at in
+    let two = reached_next m all x old st g.B.Archived.Portable.shape g.B.Archive.spelling from_third x.1 _ _ _ one _ _ by_second.0 by_second.1.0 by_second.1.1 by_second.1.2 in
+    reached_stopped m all x old st g.C.Archived.Portable.shape g.C.Archive.spelling from_fourth x.1.1 _ _ _ two _ _ (c.in-Err-serialize-2.ensures _ two.is_at)
+
+pub serialize-requires-4-clause-room : goal.serialize-requires-4-clause-room
+serialize-requires-4-clause-room g c =
+    let m : WriterMembers g.row.S.Denot = record { known = g.S.Registry.known; pos = g.S.Positional.pos; OBSERVABLE = g.S.Writer.OBSERVABLE; COUNTS = g.S.Writer.COUNTS; contents = g.S.Writer.contents; failures = g.S.Writer.failures; last_error = g.S.Writer.last_error } in
+    let from_fourth = more_fields g.D.Archived.Portable.shape g.D.Archive.spelling no_fields in
+    let from_third = more_fields g.C.Archived.Portable.shape g.C.Archive.spelling from_fourth in
+    let from_second = more_fields g.B.Archived.Portable.shape g.B.Archive.spelling from_third in
+    let all = more_fields g.A.Archived.Portable.shape g.A.Archive.spelling from_second in
+    let x : g.row.A.Denot × (g.row.B.Denot × (g.row.C.Denot × (g.row.D.Denot × Unit {0}))) = (c.args.self.now.0, (c.args.self.now.1, (c.args.self.now.2, (c.args.self.now.3, tt {0})))) in
+    let old = c.args.serializer.now in
+    let room = c.requires.room in
+    let st = c.requires.state.state in
+    let at = c.requires.state.is_at in
+    let none = reached_none m all x old st at in
+    let by_first = c.in-Ok.ensures st at in
+    let one = reached_next m all x old st g.A.Archived.Portable.shape g.A.Archive.spelling from_second x _ st old none _ _ by_first.0 by_first.1.0 by_first.1.1 by_first.1.2 in
+    let quiet_one = one.wrote.is_quiet in
+    let by_second = c.in-Ok-serialize.ensures _ one.is_at in
+    let two = reached_next m all x old st g.B.Archived.Portable.shape g.B.Archive.spelling from_third x.1 _ _ _ one _ _ by_second.0 by_second.1.0 by_second.1.1 by_second.1.2 in
+    let quiet_two = two.wrote.is_quiet in
+    let by_third = c.in-Ok-serialize-2.ensures _ two.is_at in
+    let three = reached_next m all x old st g.C.Archived.Portable.shape g.C.Archive.spelling from_fourth x.1.1 _ _ _ two _ _ by_third.0 by_third.1.0 by_third.1.1 by_third.1.2 in
+    let quiet_three = three.wrote.is_quiet in
+    omega arith
+
+pub serialize-requires-4-clause-state : goal.serialize-requires-4-clause-state
+serialize-requires-4-clause-state g c =
+    let m : WriterMembers g.row.S.Denot = record { known = g.S.Registry.known; pos = g.S.Positional.pos; OBSERVABLE = g.S.Writer.OBSERVABLE; COUNTS = g.S.Writer.COUNTS; contents = g.S.Writer.contents; failures = g.S.Writer.failures; last_error = g.S.Writer.last_error } in
+    let from_fourth = more_fields g.D.Archived.Portable.shape g.D.Archive.spelling no_fields in
+    let from_third = more_fields g.C.Archived.Portable.shape g.C.Archive.spelling from_fourth in
+    let from_second = more_fields g.B.Archived.Portable.shape g.B.Archive.spelling from_third in
+    let all = more_fields g.A.Archived.Portable.shape g.A.Archive.spelling from_second in
+    let x : g.row.A.Denot × (g.row.B.Denot × (g.row.C.Denot × (g.row.D.Denot × Unit {0}))) = (c.args.self.now.0, (c.args.self.now.1, (c.args.self.now.2, (c.args.self.now.3, tt {0})))) in
+    let old = c.args.serializer.now in
+    let st = c.requires.state.state in
+    let at = c.requires.state.is_at in
+    let none = reached_none m all x old st at in
+    let by_first = c.in-Ok.ensures st at in
+    let one = reached_next m all x old st g.A.Archived.Portable.shape g.A.Archive.spelling from_second x _ st old none _ _ by_first.0 by_first.1.0 by_first.1.1 by_first.1.2 in
+    let by_second = c.in-Ok-serialize.ensures _ one.is_at in
+    let two = reached_next m all x old st g.B.Archived.Portable.shape g.B.Archive.spelling from_third x.1 _ _ _ one _ _ by_second.0 by_second.1.0 by_second.1.1 by_second.1.2 in
+    let by_third = c.in-Ok-serialize-2.ensures _ two.is_at in
+    let three = reached_next m all x old st g.C.Archived.Portable.shape g.C.Archive.spelling from_fourth x.1.1 _ _ _ two _ _ by_third.0 by_third.1.0 by_third.1.1 by_third.1.2 in
+    record { state = _; is_at = three.is_at }
+
+pub returns-in-Err-serialize-3 : goal.returns-in-Err-serialize-3
+returns-in-Err-serialize-3 g c = λ st at.
+    let m : WriterMembers g.row.S.Denot = record { known = g.S.Registry.known; pos = g.S.Positional.pos; OBSERVABLE = g.S.Writer.OBSERVABLE; COUNTS = g.S.Writer.COUNTS; contents = g.S.Writer.contents; failures = g.S.Writer.failures; last_error = g.S.Writer.last_error } in
+    let from_fourth = more_fields g.D.Archived.Portable.shape g.D.Archive.spelling no_fields in
+    let from_third = more_fields g.C.Archived.Portable.shape g.C.Archive.spelling from_fourth in
+    let from_second = more_fields g.B.Archived.Portable.shape g.B.Archive.spelling from_third in
+    let all = more_fields g.A.Archived.Portable.shape g.A.Archive.spelling from_second in
+    let x : g.row.A.Denot × (g.row.B.Denot × (g.row.C.Denot × (g.row.D.Denot × Unit {0}))) = (c.args.self.now.0, (c.args.self.now.1, (c.args.self.now.2, (c.args.self.now.3, tt {0})))) in
+    let old = c.args.serializer.now in
+    let none = reached_none m all x old st at in
+    let by_first = c.in-Ok.ensures st at in
+    let one = reached_next m all x old st g.A.Archived.Portable.shape g.A.Archive.spelling from_second x _ st old none _ _ by_first.0 by_first.1.0 by_first.1.1 by_first.1.2 in
+    let by_second = c.in-Ok-serialize.ensures _ one.is_at in
+    let two = reached_next m all x old st g.B.Archived.Portable.shape g.B.Archive.spelling from_third x.1 _ _ _ one _ _ by_second.0 by_second.1.0 by_second.1.1 by_second.1.2 in
+    let by_third = c.in-Ok-serialize-2.ensures _ two.is_at in
+    let three = reached_next m all x old st g.C.Archived.Portable.shape g.C.Archive.spelling from_fourth x.1.1 _ _ _ two _ _ by_third.0 by_third.1.0 by_third.1.1 by_third.1.2 in
+    reached_stopped m all x old st g.D.Archived.Portable.shape g.D.Archive.spelling no_fields x.1.1.1 _ _ _ three _ _ (c.in-Err-serialize-3.ensures _ three.is_at)
+
+pub returns : goal.returns
+returns g c = λ st at.
+    let m : WriterMembers g.row.S.Denot = record { known = g.S.Registry.known; pos = g.S.Positional.pos; OBSERVABLE = g.S.Writer.OBSERVABLE; COUNTS = g.S.Writer.COUNTS; contents = g.S.Writer.contents; failures = g.S.Writer.failures; last_error = g.S.Writer.last_error } in
+    let from_fourth = more_fields g.D.Archived.Portable.shape g.D.Archive.spelling no_fields in
+    let from_third = more_fields g.C.Archived.Portable.shape g.C.Archive.spelling from_fourth in
+    let from_second = more_fields g.B.Archived.Portable.shape g.B.Archive.spelling from_third in
+    let all = more_fields g.A.Archived.Portable.shape g.A.Archive.spelling from_second in
+    let x : g.row.A.Denot × (g.row.B.Denot × (g.row.C.Denot × (g.row.D.Denot × Unit {0}))) = (c.args.self.now.0, (c.args.self.now.1, (c.args.self.now.2, (c.args.self.now.3, tt {0})))) in
+    let old = c.args.serializer.now in
+    let none = reached_none m all x old st at in
+    let by_first = c.in-Ok.ensures st at in
+    let one = reached_next m all x old st g.A.Archived.Portable.shape g.A.Archive.spelling from_second x _ st old none _ _ by_first.0 by_first.1.0 by_first.1.1 by_first.1.2 in
+    let by_second = c.in-Ok-serialize.ensures _ one.is_at in
+    let two = reached_next m all x old st g.B.Archived.Portable.shape g.B.Archive.spelling from_third x.1 _ _ _ one _ _ by_second.0 by_second.1.0 by_second.1.1 by_second.1.2 in
+    let by_third = c.in-Ok-serialize-2.ensures _ two.is_at in
+    let three = reached_next m all x old st g.C.Archived.Portable.shape g.C.Archive.spelling from_fourth x.1.1 _ _ _ two _ _ by_third.0 by_third.1.0 by_third.1.1 by_third.1.2 in
+    let by_fourth = c.in-Ok-serialize-3.ensures _ three.is_at in
+    let four = reached_next m all x old st g.D.Archived.Portable.shape g.D.Archive.spelling no_fields x.1.1.1 _ _ _ three _ _ by_fourth.0 by_fourth.1.0 by_fourth.1.1 by_fourth.1.2 in
+    let done = reached_all m all x old st _ _ _ _ four in
+    (done.0, (ap (λ r. (r.0, r.1.0, r.1.1.0, r.1.1.1.0)) done.1.0, done.1.1, done.1.2))

@@ -1,4 +1,0 @@
-//! Tests of checks.
-mod contexts;
-mod leaves;
-mod range_context;
