@@ -1,55 +1,65 @@
 //! Tests of the search trees that are refused, and of the errors.
 
-use crate::archives::{ONE_PAIR, bytes_of};
+use crate::archives::ONE_PAIR;
 use archive_btree_maps::{ArchivedBTreeMap, InvalidLength};
 use archive_core_validation::{ArchiveValidator, access};
 use archive_shape::{ArchivedNonZeroU32, ArchivedU32, Error, Ref};
 use std::alloc::Global;
 
-/// Checks a map of numbers without 0 to numbers.
-fn accepts(alloc: Global, words: &[u32]) -> Result<(), Error> {
-    let bytes = bytes_of(alloc, words)?;
-    access::<ArchivedBTreeMap<ArchivedNonZeroU32, ArchivedU32, 5>>(alloc, bytes.as_slice())?;
-    Ok(())
+/// A map of numbers without 0 to numbers.
+type Keys = ArchivedBTreeMap<ArchivedNonZeroU32, ArchivedU32, 5>;
+
+/// Returns the result of the check of the map from 7 to 11 once the kind, the first key and the length of its leaf are
+/// replaced.
+fn checked(alloc: Global, kind: u8, key: u8, len: u8) -> Result<(), Error> {
+    let mut bytes = *ONE_PAIR;
+    bytes[0] = kind;
+    bytes[4] = key;
+    bytes[44] = len;
+    match access::<Keys>(alloc, &bytes) {
+        Ok(_) => Ok(()),
+        Err(refusal) => Err(refusal),
+    }
 }
+
+/// Returns the result of verifying that map once the first key and the length of its leaf, and its number of entries, are
+/// replaced.
+fn verified(alloc: Global, key: u8, len: u8, entries: u8) -> Result<(), Error> {
+    let mut bytes = *ONE_PAIR;
+    bytes[4] = key;
+    bytes[44] = len;
+    bytes[52] = entries;
+    let mut context = ArchiveValidator::new(alloc, &bytes);
+    let map: Ref<'_, Keys> = Ref::new(&bytes, 48);
+    ArchivedBTreeMap::verify(map, alloc, &mut context)
+}
+
+/// Kinds, keys and lengths of leaves, and the errors of the check.
+const REFUSED: [(u8, u8, u8, Error); 4] = [
+    (0, 7, 6, Error::NodeLength { len: 6, maximum: 5 }),
+    (2, 7, 1, Error::InvalidTag),
+    (0, 0, 0, Error::EntriesLengthMismatch { entries: 0, len: 1 }),
+    (0, 0, 1, Error::InvalidTag),
+];
+
+/// Keys, lengths of leaves and numbers of entries, and the results of verifying them.
+const VERIFIED: [(u8, u8, u8, Result<(), Error>); 4] = [
+    (7, 1, 1, Ok(())),
+    (0, 1, 1, Err(Error::InvalidTag)),
+    (0, 6, 1, Err(InvalidLength { len: 6, maximum: 5 })),
+    (0, 6, 0, Ok(())),
+];
 
 #[test]
 fn spoilt_search_trees_are_refused(rt: HostRuntime) {
-    let rows = [
-        (0, 7, 6, Error::NodeLength { len: 6, maximum: 5 }),
-        (2, 7, 1, Error::InvalidTag),
-        (0, 0, 0, Error::EntriesLengthMismatch { entries: 0, len: 1 }),
-        (0, 0, 1, Error::InvalidTag),
-    ];
-    for (kind, key, len, refusal) in rows {
-        let mut words = ONE_PAIR;
-        words[0] = kind;
-        words[1] = key;
-        words[11] = len;
-        assert!(rt; accepts(rt.alloc(), &words) == Err(refusal));
+    for &(kind, key, len, refusal) in &REFUSED {
+        assert!(rt; checked(rt.alloc(), kind, key, len) == Err(refusal));
     }
-}
-
-/// Verifies the map at the end of words, of numbers without 0 to numbers.
-fn verifies(alloc: Global, words: &[u32; 14]) -> Result<(), Error> {
-    let bytes = bytes_of(alloc, words)?;
-    let bytes = bytes.as_slice();
-    if bytes.len() != 56 {
-        return Err(Error::BufferOverflow);
-    }
-    let mut context = ArchiveValidator::new(alloc, bytes);
-    let map: Ref<'_, ArchivedBTreeMap<ArchivedNonZeroU32, ArchivedU32, 5>> = Ref::new(bytes, 48);
-    ArchivedBTreeMap::verify(map, alloc, &mut context)
 }
 
 #[test]
 fn search_trees_are_verified(rt: HostRuntime) {
-    let mut words = ONE_PAIR;
-    assert!(rt; verifies(rt.alloc(), &words) == Ok(()));
-    words[1] = 0;
-    assert!(rt; verifies(rt.alloc(), &words) == Err(Error::InvalidTag));
-    words[11] = 6;
-    assert!(rt; verifies(rt.alloc(), &words) == Err(InvalidLength { len: 6, maximum: 5 }));
-    words[13] = 0;
-    assert!(rt; verifies(rt.alloc(), &words) == Ok(()));
+    for &(key, len, entries, result) in &VERIFIED {
+        assert!(rt; verified(rt.alloc(), key, len, entries) == result);
+    }
 }

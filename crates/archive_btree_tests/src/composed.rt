@@ -6,7 +6,7 @@ use archive_btree::{ArchivedBTreeMap, OwnedBTreeMap};
 use archive_forms::Deserialize;
 use archive_forms_comparing::ArchivedHash;
 use archive_forms_values::{ArchivedString, ArchivedTuple2, ArchivedVec};
-use archive_shape::{ArchivedI32, ArchivedU32, Error};
+use archive_shape::{ArchivedI32, ArchivedU32};
 use std::alloc::Global;
 use std::collections::BTreeMap;
 use std::hash::{DefaultHasher, Hash, Hasher};
@@ -18,59 +18,78 @@ type ArchivedList = ArchivedVec<ArchivedI32>;
 
 type ArchivedLists = ArchivedBTreeMap<ArchivedString, ArchivedList, 5>;
 
-/// Returns an owned text.
-fn text(alloc: Global, from: &str) -> Result<String, Error> {
-    match String::from_str(alloc, from) {
-        Ok(text) => Ok(text),
-        Err(_) => Err(Error::OutOfMemory),
-    }
-}
-
 /// Returns the map from `Asdf` to a list of the number 2.
-fn lists(alloc: Global) -> Result<Lists, Error> {
+fn lists(alloc: Global) -> Option<Lists> {
     let mut list = Vec::new(alloc);
-    list.push(2)?;
     let mut map = BTreeMap::new(alloc);
-    if map.insert(text(alloc, "Asdf")?, list).is_err() {
-        return Err(Error::OutOfMemory);
+    let text = String::from_str(alloc, "Asdf").ok()?;
+    if list.push(2).is_err() || map.insert(text, list).is_err() {
+        return None;
     }
-    Ok(OwnedBTreeMap { map })
+    Some(OwnedBTreeMap { map })
 }
 
 /// A map beside a list.
 type Pair = (Lists, Vec<i32>);
 
+type ArchivedPair = ArchivedTuple2<ArchivedLists, ArchivedList>;
+
+/// Returns the map beside a list that is read back of an archive.
+fn pair_of(alloc: Global, bytes: &[u8]) -> Option<Pair> {
+    let root = root_of::<ArchivedPair>(alloc, bytes)?;
+    match ArchivedTuple2::deserialize(&root, alloc, &mut (((), ()), ())) {
+        Ok(pair) => Some(pair),
+        Err(_) => None,
+    }
+}
+
+/// Returns the archive of a map beside a list.
+fn archive_of_pair(alloc: Global, pair: &Pair) -> Option<Vec<u8>> {
+    archive_of(alloc, pair)
+}
+
 /// Checks whether that map beside an empty list is read back.
-fn is_read_back_beside_a_list(alloc: Global) -> Result<bool, Error> {
+fn is_read_back_beside_a_list(alloc: Global) -> Option<bool> {
     let pair: Pair = (lists(alloc)?, Vec::new(alloc));
-    let bytes = archive_of(alloc, &pair)?;
-    let root = root_of::<ArchivedTuple2<ArchivedLists, ArchivedList>>(alloc, bytes.as_slice())?;
-    let read: Pair = ArchivedTuple2::deserialize(&root, alloc, &mut (((), ()), ()))?;
-    Ok(read.0.map == pair.0.map && read.1.is_empty())
+    let bytes = archive_of_pair(alloc, &pair)?;
+    let read = pair_of(alloc, bytes.as_slice())?;
+    Some(read.0.map == pair.0.map && read.1.is_empty())
 }
 
 #[test]
 fn maps_of_lists_are_read_back(rt: HostRuntime) {
-    assert!(rt; is_read_back_beside_a_list(rt.alloc()) == Ok(true));
+    assert!(rt; is_read_back_beside_a_list(rt.alloc()) == Some(true));
 }
 
-/// Returns the hash of an archived map from `a` to 1 and from `b` to 2.
-fn hash_of_archived(alloc: Global) -> Result<u64, Error> {
+/// A map from texts to numbers.
+type Numbers = OwnedBTreeMap<String, u32, 5>;
+
+/// Returns the map from `a` to 1 and from `b` to 2.
+fn letters(alloc: Global) -> Option<Numbers> {
     let mut map = BTreeMap::new(alloc);
     for (key, value) in [("a", 1), ("b", 2)] {
-        if map.insert(text(alloc, key)?, value).is_err() {
-            return Err(Error::OutOfMemory);
+        if map
+            .insert(String::from_str(alloc, key).ok()?, value)
+            .is_err()
+        {
+            return None;
         }
     }
-    let owned: OwnedBTreeMap<String, u32, 5> = OwnedBTreeMap { map };
-    let bytes = archive_of(alloc, &owned)?;
-    let root = root_of::<ArchivedBTreeMap<ArchivedString, ArchivedU32, 5>>(
-        alloc,
-        bytes.as_slice(),
-    )?;
+    Some(OwnedBTreeMap { map })
+}
+
+/// Returns the hash of an archived map.
+fn hash_of(alloc: Global, bytes: &[u8]) -> Option<u64> {
+    let root = root_of::<ArchivedBTreeMap<ArchivedString, ArchivedU32, 5>>(alloc, bytes)?;
     let mut hasher = DefaultHasher::new();
     ArchivedHash::hash(&root, &mut hasher);
-    Ok(hasher.finish())
+    Some(hasher.finish())
+}
+
+/// Returns the hash of the archive of the map of letters.
+fn hash_of_letters(alloc: Global) -> Option<u64> {
+    let bytes = archive_of(alloc, &letters(alloc)?)?;
+    hash_of(alloc, bytes.as_slice())
 }
 
 #[test]
@@ -80,5 +99,5 @@ fn maps_are_hashed_pair_by_pair(rt: HostRuntime) {
         key.hash(&mut hasher);
         value.hash(&mut hasher);
     }
-    assert!(rt; hash_of_archived(rt.alloc()) == Ok(hasher.finish()));
+    assert!(rt; hash_of_letters(rt.alloc()) == Some(hasher.finish()));
 }

@@ -6,17 +6,17 @@ ghost use Rattle.archive_forms_values.specs.Parts.{HasValue, both};
 ghost use Rattle.archive_btree_walking.specs.Walks.{BegunMap, IsWritten};
 ghost use Rattle.archive_btree_walking.specs.Cursors.{HasRange};
 
-use crate::archives::{FOUR_TEXTS, Texts, bytes_of, root_of};
+use crate::archives::{FOUR_TEXTS, Texts, root_of};
 use archive_btree_maps::{ArchivedBTreeMap, RangeSeal};
 use archive_forms_values::ArchivedString;
-use archive_shape::{ArchivedKey, ArchivedU32, Error, OwnSeal, Portable, Ref, Seal};
+use archive_shape::{ArchivedKey, ArchivedU32, OwnSeal, Portable, Ref, Seal};
 use std::alloc::{AllocError, Global};
 use std::ops::{Bound, ControlFlow, RangeBounds};
-use std::test::Fail;
 
-/// Adds 10 to each value in order, up to the first that becomes `last`, and returns that.
-fn add_to_each(alloc: Global, bytes: &mut Vec<u8>, last: u32) -> Result<Option<u32>, Error> {
-    let pos = root_of::<Texts>(alloc, bytes.as_slice())?.pos();
+/// Adds 10 to each value in order, up to the first that becomes `last`, and returns that, or 0 if none does. Returns
+/// `None` if the bytes are refused.
+fn add_to_each(alloc: Global, bytes: &mut [u8], last: u32) -> Option<u32> {
+    let pos = root_of::<Texts>(alloc, bytes)?.pos();
     let mut visit = |_key: Ref<'_, ArchivedString>, value: &mut OwnSeal<
         '_,
         ArchivedU32,
@@ -31,61 +31,83 @@ fn add_to_each(alloc: Global, bytes: &mut Vec<u8>, last: u32) -> Result<Option<u
             ControlFlow::Continue(())
         }
     };
-    let map = Seal::<Texts>::new(bytes.as_mut_slice(), pos);
-    Ok(ArchivedBTreeMap::visit_seal(map, &mut visit))
+    Some(ArchivedBTreeMap::visit_seal(Seal::<Texts>::new(bytes, pos), &mut visit).unwrap_or(0))
 }
 
-/// Writes a number over the value of a key, if the map has the key.
-fn set_value(alloc: Global, bytes: &mut Vec<u8>, key: &str, number: u32) -> Result<(), Error> {
-    let pos = root_of::<Texts>(alloc, bytes.as_slice())?.pos();
-    let map = Seal::<Texts>::new(bytes.as_mut_slice(), pos);
-    if let Some(value) = ArchivedBTreeMap::get_seal(map, &key) {
+/// Writes a number over the value of a key, if the map has the key. Returns `false` if the bytes are refused.
+fn set_value(alloc: Global, bytes: &mut [u8], key: &str, number: u32) -> bool {
+    let Some(root) = root_of::<Texts>(alloc, bytes) else {
+        return false;
+    };
+    let pos = root.pos();
+    if let Some(value) = ArchivedBTreeMap::get_seal(Seal::<Texts>::new(bytes, pos), &key) {
         value.write(number);
     }
-    Ok(())
+    true
 }
 
-/// Writes a number over the value of a key through the seal that comes with the key, if the map has the key.
-fn set_beside_key(alloc: Global, bytes: &mut Vec<u8>, key: &str, number: u32) -> Result<(), Error> {
-    let pos = root_of::<Texts>(alloc, bytes.as_slice())?.pos();
-    let map = Seal::<Texts>::new(bytes.as_mut_slice(), pos);
+/// Writes a number over the value of a key through the seal that comes with the key, if the map has the key. Returns
+/// `false` if the bytes are refused.
+fn set_beside_key(alloc: Global, bytes: &mut [u8], key: &str, number: u32) -> bool {
+    let Some(root) = root_of::<Texts>(alloc, bytes) else {
+        return false;
+    };
+    let pos = root.pos();
+    let map = Seal::<Texts>::new(bytes, pos);
     if let Some((_key, value)) = ArchivedBTreeMap::get_key_value_seal(map, &key) {
         value.write(number);
     }
-    Ok(())
+    true
 }
 
-/// Returns the result of a visit that adds 10 to each value up to `last`, and whether the bytes are those words once 123
-/// and 456 are written over the values of two keys.
-fn edited(
-    alloc: Global,
-    last: u32,
-    keys: (&str, &str),
-    expected: &[u32],
-) -> Result<(Option<u32>, bool), Error> {
-    let mut bytes = bytes_of(alloc, &FOUR_TEXTS)?;
-    let broken = add_to_each(alloc, &mut bytes, last)?;
-    set_value(alloc, &mut bytes, keys.0, 123)?;
-    set_beside_key(alloc, &mut bytes, keys.1, 456)?;
-    let same = bytes.as_slice() == bytes_of(alloc, expected)?.as_slice();
-    Ok((broken, same))
+/// Checks whether a visit that adds 10 to each value up to `last` breaks with a number, or with none where that is 0, and
+/// whether the values alone are changed, to those expected, once 123 and 456 are written over the values of two keys.
+fn edits_to(alloc: Global, last: u32, keys: (&str, &str), broken: u32, values: &[u8; 16]) -> bool {
+    let mut bytes = *FOUR_TEXTS;
+    let mut expected = *FOUR_TEXTS;
+    expected[44..60].copy_from_slice(values);
+    add_to_each(alloc, &mut bytes, last) == Some(broken)
+        && set_value(alloc, &mut bytes, keys.0, 123)
+        && set_beside_key(alloc, &mut bytes, keys.1, 456)
+        && bytes == expected
 }
+
+/// Edits: where the visit ends, the keys of the two values, where the visit breaks, and the values, in words.
+const EDITS: [(u32, (&str, &str), u32, &[u8; 16]); 4] = [
+    // 30, 90, 50 and 20
+    (
+        0,
+        ("qux", "qux"),
+        0,
+        b"\x1e\0\0\0\x5a\0\0\0\x32\0\0\0\x14\0\0\0",
+    ),
+    // 30, 90, 40 and 10
+    (
+        90,
+        ("qux", "qux"),
+        90,
+        b"\x1e\0\0\0\x5a\0\0\0\x28\0\0\0\x0a\0\0\0",
+    ),
+    // 30, 456, 50 and 123
+    (
+        0,
+        ("foo", "bat"),
+        0,
+        b"\x1e\0\0\0\xc8\x01\0\0\x32\0\0\0\x7b\0\0\0",
+    ),
+    // 30, 90, 456 and 20
+    (
+        0,
+        ("qux", "baz"),
+        0,
+        b"\x1e\0\0\0\x5a\0\0\0\xc8\x01\0\0\x14\0\0\0",
+    ),
+];
 
 #[test]
 fn visits_and_seals_of_keys_write_the_values_alone(rt: HostRuntime) {
-    let rows = [
-        (0, ("qux", "qux"), None, [30, 90, 50, 20]),
-        (90, ("qux", "qux"), Some(90), [30, 90, 40, 10]),
-        (0, ("foo", "bat"), None, [30, 456, 50, 123]),
-        (0, ("qux", "baz"), None, [30, 90, 456, 20]),
-    ];
-    for (last, keys, broken, values) in rows {
-        let mut expected = FOUR_TEXTS;
-        expected[11] = values[0];
-        expected[12] = values[1];
-        expected[13] = values[2];
-        expected[14] = values[3];
-        assert!(rt; edited(rt.alloc(), last, keys, &expected) == Ok((broken, true)));
+    for &(last, keys, broken, values) in &EDITS {
+        assert!(rt; edits_to(rt.alloc(), last, keys, broken, values));
     }
 }
 
@@ -109,33 +131,23 @@ fn visit_values<K: Portable, V: Portable, const E: usize>(
     Ok(())
 }
 
-/// Returns what `visit_values` appends for a map, and whether the bytes are then those words.
-fn visited(
-    alloc: Global,
-    words: &[u32],
-    byte: u8,
-    expected: &[u32],
-) -> Result<(Vec<(usize, usize)>, bool), Error> {
-    let mut bytes = bytes_of(alloc, words)?;
-    let pos = root_of::<Texts>(alloc, bytes.as_slice())?.pos();
-    let mut met = Vec::new(alloc);
-    visit_values(
-        Seal::<Texts>::new(bytes.as_mut_slice(), pos),
-        byte,
-        &mut met,
-    )?;
-    let same = bytes.as_slice() == bytes_of(alloc, expected)?.as_slice();
-    Ok((met, same))
+/// Checks what `visit_values` appends for a map, and whether the values alone are filled with 7.
+fn fills(alloc: Global, met: &[(usize, usize)]) -> bool {
+    let mut bytes = *FOUR_TEXTS;
+    let Some(root) = root_of::<Texts>(alloc, &bytes) else {
+        return false;
+    };
+    let pos = root.pos();
+    let mut places = Vec::new(alloc);
+    let done = visit_values(Seal::<Texts>::new(&mut bytes, pos), 7, &mut places);
+    let mut expected = *FOUR_TEXTS;
+    expected[44..60].fill(7);
+    done.is_ok() && places.as_slice() == met && bytes == expected
 }
 
 #[test]
-fn calls_that_values_are_lent_to_write_each_value(rt: HostRuntime) -> Result<(), Fail> {
-    let mut expected = FOUR_TEXTS;
-    expected[11..15].fill(0x0707_0707);
-    let (met, same) = visited(rt.alloc(), &FOUR_TEXTS, 7, &expected)?;
-    assert!(rt; met.as_slice() == [(44, 3), (48, 2), (52, 1), (56, 0)].as_slice());
-    assert!(rt; same);
-    Ok(())
+fn calls_that_values_are_lent_to_write_each_value(rt: HostRuntime) {
+    assert!(rt; fills(rt.alloc(), &[(44, 3), (48, 2), (52, 1), (56, 0)]));
 }
 
 /// Appends the positions of the values of the entries between two bounds.
@@ -166,39 +178,30 @@ fn note_values<K: Portable, V: Portable, const E: usize>(
     Ok(())
 }
 
-/// Returns the positions of the values of the keys between two bounds.
-fn between<'q, R: RangeBounds<&'q str>>(
-    alloc: Global,
-    words: &[u32],
-    bounds: R,
-) -> Result<Vec<usize>, Error> {
-    let mut bytes = bytes_of(alloc, words)?;
-    let pos = root_of::<Texts>(alloc, bytes.as_slice())?.pos();
+/// Checks whether the values of the keys between two bounds are at these positions.
+fn are_between(alloc: Global, bounds: (Bound<&str>, Bound<&str>), positions: &[usize]) -> bool {
+    let mut bytes = *FOUR_TEXTS;
+    let Some(root) = root_of::<Texts>(alloc, &bytes) else {
+        return false;
+    };
+    let pos = root.pos();
     let mut met = Vec::new(alloc);
-    let map = Seal::<Texts>::new(bytes.as_mut_slice(), pos);
-    note_range::<ArchivedString, ArchivedU32, _, _, 5>(map, bounds, &mut met)?;
-    Ok(met)
+    let map = Seal::<Texts>::new(&mut bytes, pos);
+    let done = note_range::<ArchivedString, ArchivedU32, _, _, 5>(map, bounds, &mut met);
+    done.is_ok() && met.as_slice() == positions
 }
 
+/// Bounds, and the positions of the values between them.
+const BOUNDS: [(Bound<&str>, Bound<&str>, &[usize]); 4] = [
+    (Bound::Included("bat"), Bound::Included("baz"), &[48, 52]),
+    (Bound::Included("bat"), Bound::Excluded("baz"), &[48]),
+    (Bound::Excluded("baz"), Bound::Unbounded, &[56]),
+    (Bound::Included("c"), Bound::Excluded("b"), &[]),
+];
+
 #[test]
-fn cursors_pass_the_values_of_a_range(rt: HostRuntime) -> Result<(), Fail> {
-    let rows = [
-        (
-            Bound::Included("bat"),
-            Bound::Included("baz"),
-            [48, 52].as_slice(),
-        ),
-        (
-            Bound::Included("bat"),
-            Bound::Excluded("baz"),
-            [48].as_slice(),
-        ),
-        (Bound::Excluded("baz"), Bound::Unbounded, [56].as_slice()),
-        (Bound::Included("c"), Bound::Excluded("b"), [].as_slice()),
-    ];
-    for (start, end, positions) in rows {
-        let met = between(rt.alloc(), &FOUR_TEXTS, (start, end))?;
-        assert!(rt; met.as_slice() == positions);
+fn cursors_pass_the_values_of_a_range(rt: HostRuntime) {
+    for &(start, end, positions) in &BOUNDS {
+        assert!(rt; are_between(rt.alloc(), (start, end), positions));
     }
-    Ok(())
 }

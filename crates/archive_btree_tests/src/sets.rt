@@ -1,12 +1,12 @@
 //! Tests of archived sets.
 
-use crate::archives::{bytes_of, root_of};
+use crate::archives::root_of;
+use crate::writing::set_of;
 use archive_btree_maps::{ArchivedBTreeSet, BTreeSetResolver, eq_btree_set};
 use archive_forms_comparing::{ArchivedEq, ArchivedHash};
 use archive_forms_values::native_of;
-use archive_shape::{ArchivedU32, Error, Place, Ref};
+use archive_shape::{ArchivedU32, Place, Ref};
 use std::alloc::Global;
-use std::collections::BTreeSet;
 use std::hash::{DefaultHasher, Hasher};
 use std::ops::ControlFlow;
 
@@ -14,72 +14,60 @@ use std::ops::ControlFlow;
 /// inner node has six pointers in place of the length.
 type Numbers = ArchivedBTreeSet<ArchivedU32, 5>;
 
-/// The words of the set without keys.
-pub(crate) const NONE: [u32; 2] = [1, 0];
+/// The bytes of the set without keys.
+pub(crate) const NONE: &[u8; 8] = b"\x01\0\0\0\0\0\0\0";
 
-/// The words of the set of 10, 20, 40 and 80: a leaf, and the set, whose root is 28 bytes before it.
-pub(crate) const FOUR: [u32; 9] = [0, 10, 20, 40, 80, 0, 4, 0xffff_ffe4, 4];
+/// The bytes of the set of 10, 20, 40 and 80: a leaf, and the set, whose root is 28 bytes before it.
+pub(crate) const FOUR: &[u8; 36] =
+    b"\0\0\0\0\x0a\0\0\0\x14\0\0\0(\0\0\0P\0\0\0\0\0\0\0\x04\0\0\0\xe4\xff\xff\xff\x04\0\0\0";
 
-/// The words of the set of 1 to 6: a leaf of the first key, and an inner node of the others.
-pub(crate) const SIX: [u32; 21] = [
-    0,
-    1,
-    0,
-    0,
-    0,
-    0,
-    1,
-    1,
-    2,
-    3,
-    4,
-    5,
-    6,
-    0xffff_ffcc,
-    1,
-    1,
-    1,
-    1,
-    1,
-    0xffff_ffd0,
-    6,
-];
+/// The bytes of the set of 1 to 6: a leaf of the first key, and an inner node of the others.
+pub(crate) const SIX: &[u8; 84] =
+    b"\0\0\0\0\x01\0\0\0\0\0\0\0\0\0\0\0\0\0\0\0\0\0\0\0\x01\0\0\0\x01\0\0\0\x02\0\0\0\x03\0\0\0\x04\0\0\0\x05\0\0\0\x06\0\0\0\xcc\xff\xff\xff\x01\0\0\0\x01\0\0\0\x01\0\0\0\x01\0\0\0\x01\0\0\0\xd0\xff\xff\xff\x06\0\0\0";
 
-/// Returns the number of keys, whether there are none, the key that is equal to a number, and whether the set has it.
-fn found(
-    alloc: Global,
-    words: &[u32],
-    key: u32,
-) -> Result<(usize, bool, Option<u32>, bool), Error> {
-    let bytes = bytes_of(alloc, words)?;
-    let root = root_of::<Numbers>(alloc, bytes.as_slice())?;
-    let len = ArchivedBTreeSet::len(root);
-    let empty = ArchivedBTreeSet::is_empty(root);
-    let has = ArchivedBTreeSet::contains_key(root, &key);
-    match ArchivedBTreeSet::get(root, &key) {
-        Some(found) => Ok((len, empty, Some(native_of(found)), has)),
-        None => Ok((len, empty, None, has)),
-    }
+/// Checks whether a set has so many keys, and a key as `has` says.
+fn finds(alloc: Global, bytes: &[u8], key: u32, len: usize, has: bool) -> bool {
+    let Some(root) = root_of::<Numbers>(alloc, bytes) else {
+        return false;
+    };
+    let found = match ArchivedBTreeSet::get(root, &key) {
+        Some(found) => has && native_of(found) == key,
+        None => !has,
+    };
+    found
+        && ArchivedBTreeSet::len(root) == len
+        && ArchivedBTreeSet::is_empty(root) == (len == 0)
+        && ArchivedBTreeSet::contains_key(root, &key) == has
 }
+
+/// Sets by their bytes, keys, the number of keys, and whether the sets have the keys.
+const LOOK_UPS: [(&[u8], u32, usize, bool); 11] = [
+    (NONE, 10, 0, false),
+    (FOUR, 10, 4, true),
+    (FOUR, 20, 4, true),
+    (FOUR, 40, 4, true),
+    (FOUR, 80, 4, true),
+    (FOUR, 9, 4, false),
+    (FOUR, 30, 4, false),
+    (FOUR, 81, 4, false),
+    (SIX, 1, 6, true),
+    (SIX, 2, 6, true),
+    (SIX, 6, 6, true),
+];
 
 #[test]
 fn keys_are_found(rt: HostRuntime) {
-    assert!(rt; found(rt.alloc(), &NONE, 10) == Ok((0, true, None, false)));
-    for key in [10, 20, 40, 80] {
-        assert!(rt; found(rt.alloc(), &FOUR, key) == Ok((4, false, Some(key), true)));
-    }
-    for key in [9, 30, 81] {
-        assert!(rt; found(rt.alloc(), &FOUR, key) == Ok((4, false, None, false)));
-    }
-    for key in [1, 2, 6] {
-        assert!(rt; found(rt.alloc(), &SIX, key) == Ok((6, false, Some(key), true)));
+    for &(bytes, key, len, has) in &LOOK_UPS {
+        assert!(rt; finds(rt.alloc(), bytes, key, len, has));
     }
 }
 
-/// Returns where a visit breaks that ends at a key's position, and the number of keys that it visits.
-fn visited(alloc: Global, words: &[u32], last: usize) -> Result<(Option<usize>, usize), Error> {
-    let bytes = bytes_of(alloc, words)?;
-    let root = root_of::<Numbers>(alloc, bytes.as_slice())?;
+/// Checks where a visit breaks that ends at the key at a position, which is 0 if it does not break, and the number of
+/// keys that it visits.
+fn is_visited(alloc: Global, bytes: &[u8], last: usize, at: usize, count: usize) -> bool {
+    let Some(root) = root_of::<Numbers>(alloc, bytes) else {
+        return false;
+    };
     let mut met = 0usize;
     let mut visit = |key: Ref<'_, ArchivedU32>| -> ControlFlow<usize> {
         met = met.saturating_add(1);
@@ -90,63 +78,66 @@ fn visited(alloc: Global, words: &[u32], last: usize) -> Result<(Option<usize>, 
         }
     };
     let broken = ArchivedBTreeSet::visit(root, &mut visit);
-    Ok((broken, met))
+    broken.unwrap_or(0) == at && met == count
 }
 
 #[test]
 fn visit_of_keys_ends_at_the_first_break(rt: HostRuntime) {
-    assert!(rt; visited(rt.alloc(), &FOUR, 8) == Ok((Some(8), 2)));
-    assert!(rt; visited(rt.alloc(), &FOUR, 0) == Ok((None, 4)));
-    assert!(rt; visited(rt.alloc(), &NONE, 0) == Ok((None, 0)));
+    let alloc = rt.alloc();
+    assert!(rt;
+        is_visited(alloc, FOUR, 8, 8, 2)
+            && is_visited(alloc, FOUR, 0, 0, 4)
+            && is_visited(alloc, NONE, 0, 0, 0)
+    );
 }
 
-/// Checks whether a set has the same keys as one of std.
-fn equals(alloc: Global, words: &[u32], keys: &[u32]) -> Result<bool, Error> {
-    let bytes = bytes_of(alloc, words)?;
-    let root = root_of::<Numbers>(alloc, bytes.as_slice())?;
-    let mut other = BTreeSet::new(alloc);
-    for key in keys {
-        if other.insert(*key).is_err() {
-            return Err(Error::OutOfMemory);
-        }
+/// Checks whether an archived set is equal to one of std, as `same` says.
+fn is_equal(alloc: Global, bytes: &[u8], keys: &[u32], same: bool) -> bool {
+    let Some(root) = root_of::<Numbers>(alloc, bytes) else {
+        return false;
+    };
+    match set_of(alloc, keys) {
+        Some(other) => eq_btree_set(&root, &other.set) == same,
+        None => false,
     }
-    Ok(eq_btree_set(&root, &other))
 }
 
-/// Returns whether two archived sets are equal, and whether they are hashed alike.
-fn compared(alloc: Global, words: &[u32], others: &[u32]) -> Result<(bool, bool), Error> {
-    let bytes = bytes_of(alloc, words)?;
-    let more = bytes_of(alloc, others)?;
-    let root = root_of::<Numbers>(alloc, bytes.as_slice())?;
-    let other = root_of::<Numbers>(alloc, more.as_slice())?;
+/// Checks whether two archived sets are equal, as `same` says, and hashed alike.
+fn are_equal(alloc: Global, bytes: &[u8], others: &[u8], same: bool) -> bool {
+    let Some(root) = root_of::<Numbers>(alloc, bytes) else {
+        return false;
+    };
+    let Some(other) = root_of::<Numbers>(alloc, others) else {
+        return false;
+    };
     let mut first = DefaultHasher::new();
     let mut second = DefaultHasher::new();
     ArchivedHash::hash(&root, &mut first);
     ArchivedHash::hash(&other, &mut second);
-    Ok((
-        ArchivedEq::eq(&root, &other),
-        first.finish() == second.finish(),
-    ))
+    ArchivedEq::eq(&root, &other) == same && (first.finish() == second.finish()) == same
 }
+
+/// Archived sets by their bytes, keys of sets of std, and whether they are equal.
+const KEYS: [(&[u8], &[u32], bool); 7] = [
+    (NONE, &[], true),
+    (SIX, &[1, 2, 3, 4, 5, 6], true),
+    (FOUR, &[80, 40, 20, 10], true),
+    (FOUR, &[10, 20, 40], false),
+    (FOUR, &[10, 20, 40, 81], false),
+    (FOUR, &[11, 20, 40, 80], false),
+    (FOUR, &[10, 20, 40, 80, 81], false),
+];
 
 #[test]
 fn sets_of_the_same_keys_are_equal_and_hashed_alike(rt: HostRuntime) {
-    assert!(rt; equals(rt.alloc(), &NONE, &[]) == Ok(true));
-    assert!(rt; equals(rt.alloc(), &SIX, &[1, 2, 3, 4, 5, 6]) == Ok(true));
-    let rows = [
-        ([80, 40, 20, 10].as_slice(), true),
-        ([10, 20, 40].as_slice(), false),
-        ([10, 20, 40, 81].as_slice(), false),
-        ([11, 20, 40, 80].as_slice(), false),
-        ([10, 20, 40, 80, 81].as_slice(), false),
-    ];
-    for (keys, same) in rows {
-        assert!(rt; equals(rt.alloc(), &FOUR, keys) == Ok(same));
+    for &(bytes, keys, same) in &KEYS {
+        assert!(rt; is_equal(rt.alloc(), bytes, keys, same));
     }
-    let mut unused = FOUR;
-    unused[5] = 7;
-    assert!(rt; compared(rt.alloc(), &FOUR, &unused) == Ok((true, true)));
-    assert!(rt; compared(rt.alloc(), &FOUR, &SIX) == Ok((false, false)));
+    let mut unused = *FOUR;
+    unused[20] = 7;
+    assert!(rt;
+        are_equal(rt.alloc(), FOUR, &unused, true) && are_equal(rt.alloc(), FOUR, SIX, false)
+    );
 }
 
 #[test]
@@ -154,6 +145,5 @@ fn set_is_resolved(rt: HostRuntime) {
     let mut own = [0u8; 8];
     let resolver = BTreeSetResolver::from_pos(Some(0));
     let done = Numbers::resolve_from_len(4, resolver, Place::new(&mut own, 28));
-    assert!(rt; done == Ok(()));
-    assert!(rt; own == [0xe4, 0xff, 0xff, 0xff, 4, 0, 0, 0]);
+    assert!(rt; done.is_ok() && own == [0xe4, 0xff, 0xff, 0xff, 4, 0, 0, 0]);
 }

@@ -2,7 +2,7 @@
 ghost use Rattle.std.specs.Prelude.{◌-◌, ◌^◌, ◌<◌};
 ghost use Rattle.archive_forms_values.specs.FormsLaws.Serializing.{HasState, SerializesBy};
 
-use crate::archives::{EMPTY, ONE_PAIR, SIX_PAIRS, bytes_of, root_of};
+use crate::archives::{EMPTY, ONE_PAIR, SIX_PAIRS, root_of};
 use crate::sets::{FOUR, NONE, SIX};
 use archive_btree::{
     ArchivedBTreeSet, BTreeMapResolver, BTreeSetResolver, EntryParts, OwnedBTreeMap, OwnedBTreeSet,
@@ -15,7 +15,6 @@ use archive_shape::{Allocator, ArchivedU32, Error, Positional, Registry, Writer}
 use std::alloc::Global;
 use std::collections::{BTreeMap, BTreeSet};
 use std::marker::PhantomData;
-use std::test::Fail;
 
 /// A serializer into memory that grows.
 type Memory = Serializer<Vec<u8>, Global, ()>;
@@ -28,37 +27,61 @@ fn memory(alloc: Global) -> Memory
     Serializer::new(Vec::new(alloc), alloc, ())
 }
 
-/// Returns the archive of a value.
-pub(crate) fn archive_of<T: Serialize<Memory>>(alloc: Global, value: &T) -> Result<Vec<u8>, Error> {
+/// Returns the archive of a value, or `None` if it cannot be written.
+pub(crate) fn archive_of<T: Serialize<Memory>>(alloc: Global, value: &T) -> Option<Vec<u8>> {
     let mut serializer = memory(alloc);
-    serialize_using(value, &mut serializer)?;
-    Ok(serializer.into_writer())
+    if serialize_using(value, &mut serializer).is_err() {
+        return None;
+    }
+    Some(serializer.into_writer())
 }
 
-/// Returns a map of numbers.
-fn numbers(alloc: Global, pairs: &[(u32, u32)]) -> Result<OwnedBTreeMap<u32, u32, 5>, Error> {
+/// Returns the map from keys to values, or `None` if memory runs out.
+pub(crate) fn numbers(
+    alloc: Global,
+    keys: &[u32],
+    values: &[u32],
+) -> Option<OwnedBTreeMap<u32, u32, 5>> {
     let mut map = BTreeMap::new(alloc);
-    for pair in pairs {
-        if map.insert(pair.0, pair.1).is_err() {
-            return Err(Error::OutOfMemory);
+    for (key, value) in keys.iter().zip(values) {
+        if map.insert(*key, *value).is_err() {
+            return None;
         }
     }
-    Ok(OwnedBTreeMap { map })
+    Some(OwnedBTreeMap { map })
 }
 
-/// Checks whether the archive of a map of numbers has these words.
-fn is_map_of(alloc: Global, pairs: &[(u32, u32)], words: &[u32]) -> Result<bool, Error> {
-    let bytes = archive_of(alloc, &numbers(alloc, pairs)?)?;
-    Ok(bytes == bytes_of(alloc, words)?)
+/// Returns a set of numbers, or `None` if memory runs out.
+pub(crate) fn set_of(alloc: Global, keys: &[u32]) -> Option<OwnedBTreeSet<u32, 5>> {
+    let mut set = BTreeSet::new(alloc);
+    for key in keys {
+        if set.insert(*key).is_err() {
+            return None;
+        }
+    }
+    Some(OwnedBTreeSet { set })
+}
+
+/// Checks whether the archive of a map of numbers has these bytes.
+fn is_map_of(alloc: Global, keys: &[u32], values: &[u32], bytes: &[u8]) -> bool {
+    let Some(owned) = numbers(alloc, keys, values) else {
+        return false;
+    };
+    match archive_of(alloc, &owned) {
+        Some(written) => written.as_slice() == bytes,
+        None => false,
+    }
 }
 
 #[test]
 fn maps_are_written_as_packed_trees(rt: HostRuntime) {
     let alloc = rt.alloc();
-    assert!(rt; is_map_of(alloc, &[], &EMPTY) == Ok(true));
-    assert!(rt; is_map_of(alloc, &[(7, 11)], &ONE_PAIR) == Ok(true));
-    let pairs = [(1, 11), (2, 12), (3, 13), (4, 14), (5, 15), (6, 16)];
-    assert!(rt; is_map_of(alloc, &pairs, &SIX_PAIRS) == Ok(true));
+    let (keys, values) = ([1, 2, 3, 4, 5, 6], [11, 12, 13, 14, 15, 16]);
+    assert!(rt;
+        is_map_of(alloc, &[], &[], EMPTY)
+            && is_map_of(alloc, &[7], &[11], ONE_PAIR)
+            && is_map_of(alloc, &keys, &values, SIX_PAIRS)
+    );
 }
 
 /// Writes the entries of a map, of which `claimed` are claimed to come.
@@ -73,96 +96,106 @@ fn write_claimed<S: Writer + Allocator>(
     serialize_from_ordered_iter::<S, u32, u32, _, 5>(claimed, owned.map.iter(), serializer)
 }
 
-/// Returns the result of writing pairs, of which `claimed` are claimed to come.
-fn claiming(
-    alloc: Global,
-    claimed: usize,
-    pairs: &[(u32, u32)],
-) -> Result<BTreeMapResolver, Error> {
-    let owned = numbers(alloc, pairs)?;
-    write_claimed(claimed, &owned, &mut memory(alloc))
+/// Returns the result of writing the map from the first `actual` of 1 to 3 to 11 to 13, of which `claimed` are claimed
+/// to come.
+fn claiming(alloc: Global, claimed: usize, actual: usize) -> Result<BTreeMapResolver, Error> {
+    let keys = [1, 2, 3];
+    let keys = keys.get(..actual).unwrap_or(&[]);
+    match numbers(alloc, keys, &[11, 12, 13]) {
+        Some(owned) => write_claimed(claimed, &owned, &mut memory(alloc)),
+        None => Err(Error::OutOfMemory),
+    }
 }
 
 #[test]
 fn wrong_claims_are_refused_with_both_numbers(rt: HostRuntime) {
-    let alloc = rt.alloc();
-    let pairs = [(1, 11), (2, 12), (3, 13)];
     for (expected, actual) in [(3, 2), (0, 1), (1, 3)] {
         assert!(rt;
-            claiming(alloc, expected, &pairs[..actual])
+            claiming(rt.alloc(), expected, actual)
                 == Err(Error::IteratorLengthMismatch { expected, actual })
         );
     }
-    assert!(rt; claiming(alloc, 2, &pairs[..2]) == Ok(BTreeMapResolver::from_pos(Some(0))));
+    let resolver = BTreeMapResolver::from_pos(Some(0));
+    assert!(rt; claiming(rt.alloc(), 2, 2) == Ok(resolver));
 }
 
 /// Returns the number of bytes of the archive of a map of `count` numbers in decimal, each of which leads to three
 /// words of eight bytes.
-fn size_of_decimals(alloc: Global, count: u64) -> Result<usize, Error> {
+fn size_of_decimals(alloc: Global, count: u64) -> Option<usize> {
     let mut map = BTreeMap::new(alloc);
     for i in 0..count {
-        let Ok(key) = format!(in alloc; "{i}") else {
-            return Err(Error::OutOfMemory);
-        };
+        let key = format!(in alloc; "{i}").ok()?;
         if map.insert(key, [i, 0, 0]).is_err() {
-            return Err(Error::OutOfMemory);
+            return None;
         }
     }
     let owned: OwnedBTreeMap<String, [u64; 3], 5> = OwnedBTreeMap { map };
-    Ok(archive_of(alloc, &owned)?.len())
+    match archive_of(alloc, &owned) {
+        Some(bytes) => Some(bytes.len()),
+        None => None,
+    }
 }
+
+/// Numbers of entries, and the numbers of bytes of their archives.
+const SIZES: [(u64, usize); 9] = [
+    (0, 8),
+    (1, 184),
+    (5, 184),
+    (6, 376),
+    (17, 728),
+    (35, 1256),
+    (36, 1448),
+    (112, 4120),
+    (215, 7688),
+];
 
 #[test]
 fn leaves_and_inner_nodes_are_as_many_as_a_packed_tree_has(rt: HostRuntime) {
-    for (count, size) in [
-        (0, 8),
-        (1, 184),
-        (5, 184),
-        (6, 376),
-        (17, 728),
-        (35, 1256),
-        (36, 1448),
-        (112, 4120),
-        (215, 7688),
-    ] {
-        assert!(rt; size_of_decimals(rt.alloc(), count) == Ok(size));
+    for &(count, size) in &SIZES {
+        assert!(rt; size_of_decimals(rt.alloc(), count) == Some(size));
     }
 }
 
-/// Returns a set of numbers.
-fn set_of(alloc: Global, keys: &[u32]) -> Result<OwnedBTreeSet<u32, 5>, Error> {
-    let mut set = BTreeSet::new(alloc);
-    for key in keys {
-        if set.insert(*key).is_err() {
-            return Err(Error::OutOfMemory);
-        }
+/// Checks whether the archive of a set of numbers has these bytes.
+fn is_set_of(alloc: Global, owned: &OwnedBTreeSet<u32, 5>, bytes: &[u8]) -> bool {
+    match archive_of(alloc, owned) {
+        Some(written) => written.as_slice() == bytes,
+        None => false,
     }
-    Ok(OwnedBTreeSet { set })
 }
 
-/// Checks whether the archive of a set of numbers has these words.
-fn is_set_of(alloc: Global, keys: &[u32], words: &[u32]) -> Result<bool, Error> {
-    let bytes = archive_of(alloc, &set_of(alloc, keys)?)?;
-    Ok(bytes == bytes_of(alloc, words)?)
+/// Checks whether a set of numbers is read back of bytes.
+fn is_read_back(alloc: Global, owned: &OwnedBTreeSet<u32, 5>, bytes: &[u8]) -> bool {
+    let Some(root) = root_of::<ArchivedBTreeSet<ArchivedU32, 5>>(alloc, bytes) else {
+        return false;
+    };
+    let read: Result<OwnedBTreeSet<u32, 5>, Error> = ArchivedBTreeSet::deserialize(
+        &root,
+        alloc,
+        &mut (),
+    );
+    match read {
+        Ok(read) => read.set == owned.set,
+        Err(_) => false,
+    }
 }
 
-/// Returns the set that is read back of words.
-fn read_back(alloc: Global, words: &[u32]) -> Result<OwnedBTreeSet<u32, 5>, Error> {
-    let bytes = bytes_of(alloc, words)?;
-    let root = root_of::<ArchivedBTreeSet<ArchivedU32, 5>>(alloc, bytes.as_slice())?;
-    ArchivedBTreeSet::deserialize(&root, alloc, &mut ())
+/// Checks whether a set of numbers is written as bytes and read back of them.
+fn is_set_at(alloc: Global, keys: &[u32], bytes: &[u8]) -> bool {
+    match set_of(alloc, keys) {
+        Some(owned) => is_set_of(alloc, &owned, bytes) && is_read_back(alloc, &owned, bytes),
+        None => false,
+    }
 }
 
 #[test]
-fn sets_are_written_without_bytes_for_values_and_read_back(rt: HostRuntime) -> Result<(), Fail> {
+fn sets_are_written_without_bytes_for_values_and_read_back(rt: HostRuntime) {
     let alloc = rt.alloc();
-    assert!(rt; is_set_of(alloc, &[], &NONE) == Ok(true));
-    assert!(rt; is_set_of(alloc, &[80, 10, 40, 20], &FOUR) == Ok(true));
-    assert!(rt; is_set_of(alloc, &[1, 2, 3, 4, 5, 6], &SIX) == Ok(true));
-    let six = set_of(alloc, &[1, 2, 3, 4, 5, 6])?;
-    assert!(rt; read_back(alloc, &SIX)?.set == six.set);
-    assert!(rt; read_back(alloc, &NONE)?.set.is_empty());
-    Ok(())
+    assert!(rt;
+        is_set_at(alloc, &[], NONE)
+            && is_set_at(alloc, &[80, 10, 40, 20], FOUR)
+            && is_set_at(alloc, &[1, 2, 3, 4, 5, 6], SIX)
+    );
 }
 
 /// Writes a map by a step for its keys and one for its values.
@@ -188,15 +221,19 @@ fn write_by_parts<S: Writer + Allocator, K: Serialize<S> + Ord, V: Serialize<S>>
     serialize_map_each::<K, V, S, _, 5>(map, serializer, &step)
 }
 
-#[test]
-fn steps_of_keys_and_of_values_write_the_same(rt: HostRuntime) -> Result<(), Fail> {
-    let alloc = rt.alloc();
-    let map = numbers(alloc, &[(7, 11)])?;
+/// Checks whether the map from 7 to 11 is written by parts, as a leaf at position 0 of 48 bytes.
+fn is_written_by_parts(alloc: Global) -> bool {
+    let Some(map) = numbers(alloc, &[7], &[11]) else {
+        return false;
+    };
     let mut serializer = memory(alloc);
-    let written = write_by_parts(&map, &mut serializer);
-    assert!(rt; written == Ok(BTreeMapResolver::from_pos(Some(0))));
-    assert!(rt; serializer.into_writer().len() == 48);
-    Ok(())
+    write_by_parts(&map, &mut serializer) == Ok(BTreeMapResolver::from_pos(Some(0)))
+        && serializer.into_writer().len() == 48
+}
+
+#[test]
+fn steps_of_keys_and_of_values_write_the_same(rt: HostRuntime) {
+    assert!(rt; is_written_by_parts(rt.alloc()));
 }
 
 /// Writes the keys of a set, of which `claimed` are claimed to come.
@@ -211,16 +248,22 @@ fn write_claimed_keys<S: Writer + Allocator>(
     serialize_set_from_ordered_iter::<S, u32, _, 5>(claimed, owned.set.iter(), serializer)
 }
 
+/// Returns the result of writing the set of 1 to 6, of which `claimed` are claimed to come.
+fn claiming_keys(alloc: Global, claimed: usize) -> Result<BTreeSetResolver, Error> {
+    match set_of(alloc, &[1, 2, 3, 4, 5, 6]) {
+        Some(owned) => write_claimed_keys(claimed, &owned, &mut memory(alloc)),
+        None => Err(Error::OutOfMemory),
+    }
+}
+
 #[test]
-fn keys_in_order_are_written_where_as_many_come_as_are_claimed(
-    rt: HostRuntime,
-) -> Result<(), Fail> {
-    let alloc = rt.alloc();
-    let six = set_of(alloc, &[1, 2, 3, 4, 5, 6])?;
-    let written = write_claimed_keys(6, &six, &mut memory(alloc));
-    assert!(rt; written == Ok(BTreeSetResolver::from_pos(Some(28))));
-    let refused = write_claimed_keys(5, &six, &mut memory(alloc));
+fn keys_in_order_are_written_where_as_many_come_as_are_claimed(rt: HostRuntime) {
     let (expected, actual) = (5, 6);
-    assert!(rt; refused == Err(Error::IteratorLengthMismatch { expected, actual }));
-    Ok(())
+    let rows = [
+        (6, Ok(BTreeSetResolver::from_pos(Some(28)))),
+        (5, Err(Error::IteratorLengthMismatch { expected, actual })),
+    ];
+    for (claimed, result) in rows {
+        assert!(rt; claiming_keys(rt.alloc(), claimed) == result);
+    }
 }

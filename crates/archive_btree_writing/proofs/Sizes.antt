@@ -14,3 +14,7 @@ few_fit most size tag align r e h few =
     let small : size ≤ 2147483647 = omega (arith, same, h) in
     let bound : most * size ≤ 4294967295 * size = mul-le-mul_right size (omega (arith, few)) in
     omega (arith, bound, small)
+
+-- fewer elements fit as well
+pub few_within : (i most size limit : ℕ) → i ≤ most → most * size < limit → i * size < limit
+few_within i most size limit h fits = let bound : i * size ≤ most * size = mul-le-mul_right size h in omega (arith, bound, fits)

@@ -1,5 +1,5 @@
 -- The nodes that are written for entries which are borrowed.
-use Rattle.std.specs.Prelude.{◌≡◌, ℕ, ◌+◌, ◌-◌, ◌*◌, ◌^◌, ◌<◌, ◌≤◌, All, List, [], ◌∷◌, ◌++◌, length, Option, Some, None, Result, ⊤, ◌⊎◌}
+use Rattle.std.specs.Prelude.{◌≡◌, ℕ, ◌+◌, ◌-◌, ◌*◌, List, [], ◌∷◌, ◌++◌, length, Option, Some, None, Result, ⊤, ◌⊎◌}
 use Rattle.std.specs.Int.{w32, to_le_bytes}
 use denote.Bor.{Bor}
 use Rattle.archive_shape.specs.ShapeLayout.Bytes.{align_up}
@@ -7,12 +7,10 @@ use Rattle.archive_shape.specs.ShapeLayout.Shape.{Shape}
 use Rattle.archive_shape.specs.ShapeLayout.Content.{link_node_align}
 use Rattle.archive_shape.specs.Bytes.{zeros}
 use Rattle.archive_shape_writing.specs.Writing.{WriterMembers}
-use Rattle.archive_shape_writing.specs.Progress.{Progress}
 use Rattle.archive_shape_writing.specs.declared.error.Error.{Error}
 use Rattle.archive_shape_writing.specs.declared.error.Error.TheVariants.{PositionTooLarge}
 use Rattle.archive_forms_values.specs.FormsLaws.State.{State}
-use Rattle.archive_forms_values.specs.FormsLaws.Serializing.{HasState, Lays}
-use Rattle.archive_forms_values.specs.FormsLaws.Regions.{resolvers}
+use Rattle.archive_forms_values.specs.FormsLaws.Serializing.{Lays}
 use Rattle.archive_forms_values.specs.FormsLaws.Spelling.{Spelling}
 use Rattle.archive_forms_values.specs.FormsLaws.Forms.{seen_as}
 use Rattle.archive_btree_writing.specs.declared.children.Children.{Children}
@@ -63,22 +61,6 @@ words_behind (Some children) len pos = links (children_of children) pos
 abbrev pub words_size : Option Children → ℕ
 words_size None = 4
 words_size (Some children) = length children.lesser.now * 4 + 4
-
--- the data of the entries of a node may be written, where a step takes each of them
-pub record CanSerialize {C W : Type 0} (most : ℕ) (takes : C → Type 0) (entries : List C) (failures pos : W → ℕ) (known : W → ℕ → Progress ℕ) (old : W) : Type 0 where
-  pub some : 0 < length entries
-  pub few : length entries ≤ most
-  pub taken : All takes entries
-  pub room : failures old < 2 ^ 64 - 1
-  pub state : HasState pos known old
-
--- the node of entries, whose data is written, may be written, where these are their resolvers
-pub record CanWrite {C Q W : Type 0} (most : ℕ) (children : Option Children) (w : Spelling C Q) (entries : List C) (kept : List Q) (failures : W → ℕ) (old : W) : Type 0 where
-  pub few : length entries ≤ most
-  pub small : most < 2 ^ 32
-  pub whole : AreChildren most children
-  pub room : failures old < 2 ^ 64 - 1
-  pub made : (st : State) × (kept ≡ resolvers w entries st)
 
 -- after data that ends at a position, a node begins at the next position of its alignment, with zeros before it
 abbrev pub LaysBehind : {A B R Q W : Type 0} → ℕ → Shape → Shape → Spelling A R → Spelling B Q → WriterMembers W → Linked (A × B) → State → W → W → ℕ → Result ℕ Error → Type 0

@@ -1,57 +1,16 @@
-//! The entries of a node: their data, and their own bytes.
-ghost use Rattle.std.specs.Prelude.{◌≡◌, ℕ, ◌+◌, ◌*◌, ◌^◌, ◌<◌, ◌≤◌, length, take, MatchResult};
-ghost use Rattle.std.specs.Map.Iter.{deref_pair};
+//! The own bytes of the entries of a node, whose data is written.
+ghost use Rattle.std.specs.Prelude.{◌≡◌, ℕ, ◌+◌, ◌*◌, ◌^◌, ◌<◌, ◌≤◌, length, MatchResult};
 ghost use Rattle.archive_shape.specs.ShapeLayout.Shape.{size_of};
 ghost use Rattle.archive_shape.specs.Bytes.{HasBytes, zeros, overwrite};
 ghost use Rattle.archive_forms_values.specs.FormsLaws.State.{State};
 ghost use Rattle.archive_forms_values.specs.FormsLaws.Spelling.{state_after};
-ghost use Rattle.archive_forms_values.specs.FormsLaws.Serializing.{CanResolve, IsAt, LaysData, Resolves};
-ghost use Rattle.archive_forms_values.specs.FormsLaws.Regions.{state_after_all, pieces, resolvers, pieces_fit, pieces_refused};
+ghost use Rattle.archive_forms_values.specs.FormsLaws.Serializing.{CanResolve, Resolves};
+ghost use Rattle.archive_forms_values.specs.FormsLaws.Regions.{resolvers};
 ghost use Rattle.archive_btree_spelling.specs.Written.{slots, AllSlots, AnySlot, key_own, value_own};
-ghost use Rattle.archive_btree_writing.specs.Nodes.{CanSerialize, borrowed, borrowed_entry};
+ghost use Rattle.archive_btree_writing.specs.Nodes.{borrowed, borrowed_entry};
 
-use archive_forms_borrowed::EntryStep;
 use archive_forms_writing::{Archive, ArchiveWith, ByArchive};
-use archive_shape::{Allocator, Error, Place, Portable, Writer};
-
-/// Writes the data of the entries of a node, by a step. Returns their resolvers as the first elements of the array.
-pub fn serialize_entries<
-    'a,
-    K: Archive,
-    V,
-    A: ArchiveWith<V>,
-    S: Writer + Allocator,
-    C: EntryStep<K, V, A, S>,
-    const E: usize,
->(
-    with: &A,
-    entries: &[(&'a K, &'a V)],
-    serializer: &mut S,
-    step: &C,
-) -> Result<[(K::Resolver, A::Resolver); E], Error>
-    requires { CanSerialize E (λ e. C.takes step.now with.now (deref_pair e)) entries.now
-        S.failures S.pos S.known serializer.old }
-    ensures { (st : State) → IsAt S.pos S.known serializer.old st
-        → let w = borrowed_entry E K.Archived.shape A.Archived.shape K.spelling (A.spelling with.now) in
-        LaysData S.Writer serializer.old serializer.new (pieces w entries.now st)
-        (λ all. (take (length entries.now) all ≡ resolvers w entries.now st) × pieces_fit w entries.now st × IsAt S.pos S.known serializer.new (state_after_all w entries.now st))
-        (pieces_refused w entries.now st) result }
-{
-    let first = &entries[0];
-    let first = match step.serialize_entry(with, first.0, first.1, serializer) {
-        Ok(done) => done,
-        Err(e) => return Err(e),
-    };
-    let mut kept = [first; E];
-    for i in 1..entries.len() {
-        let entry = &entries[i];
-        match step.serialize_entry(with, entry.0, entry.1, serializer) {
-            Ok(done) => kept[i] = done,
-            Err(e) => return Err(e),
-        }
-    }
-    Ok(kept)
-}
+use archive_shape::{Error, Place, Portable};
 
 /// Writes the own bytes of a value, whose data is written, at `start` of a buffer, which is zero there and will lie at
 /// position `pos` of the archive.

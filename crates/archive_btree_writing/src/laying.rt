@@ -6,8 +6,7 @@ ghost use Rattle.archive_btree_spelling.specs.Laying.{LaysNode};
 ghost use Rattle.archive_btree_writing.specs.Nodes.{leaf_of, inner_of, node_of, AreChildren};
 
 use crate::children::Children;
-use crate::entries::serialize_entries;
-use crate::nodes::write_kept;
+use crate::nodes::write_behind;
 use archive_forms_borrowed::EntryStep;
 use archive_forms_writing::{Archive, ArchiveWith};
 use archive_shape::{Allocator, Error, Writer};
@@ -46,10 +45,21 @@ fn write_node_each<
     if size_of_val(&none) > LARGEST {
         return Err(Error::OutOfMemory);
     }
-    match serialize_entries::<K, V, A, S, C, E>(with, entries, serializer, step) {
-        Ok(kept) => write_kept::<K, V, A, S, E>(with, entries, kept, children, serializer),
-        Err(e) => Err(e),
+    let first = &entries[0];
+    let first = match step.serialize_entry(with, first.0, first.1, serializer) {
+        Ok(done) => done,
+        Err(e) => return Err(e),
+    };
+    let mut kept = [first; E];
+    for i in 1..entries.len() {
+        let entry = &entries[i];
+        match step.serialize_entry(with, entry.0, entry.1, serializer) {
+            Ok(done) => kept[i] = done,
+            Err(e) => return Err(e),
+        }
     }
+    let kept: &[(K::Resolver, A::Resolver)] = &kept;
+    write_behind::<K, V, A, S, E>(with, entries, &kept[..entries.len()], children, serializer)
 }
 
 /// Writes a leaf after the data of its entries, which a step writes, and returns its position.

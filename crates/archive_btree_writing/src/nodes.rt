@@ -1,5 +1,5 @@
 //! Writing nodes after the data of their entries.
-ghost use Rattle.std.specs.Prelude.{◌≡◌, ℕ, ◌+◌, ◌-◌, ◌^◌, ◌<◌, ◌≤◌, length, take, IfOk, MatchResult};
+ghost use Rattle.std.specs.Prelude.{◌≡◌, ℕ, ◌+◌, ◌-◌, ◌^◌, ◌<◌, ◌≤◌, length, IfOk, MatchResult};
 ghost use Rattle.archive_shape.specs.ShapeLayout.Content.{words_of, link_node_size};
 ghost use Rattle.archive_shape.specs.Bytes.{zeros};
 ghost use Rattle.archive_shape_writing.specs.declared.error.Error.TheVariants.{PositionTooLarge};
@@ -8,7 +8,7 @@ ghost use Rattle.archive_forms_values.specs.FormsLaws.Serializing.{Lays};
 ghost use Rattle.archive_forms_values.specs.FormsLaws.Regions.{resolvers};
 ghost use Rattle.archive_btree_spelling.specs.Written.{own_size, own_bytes, slots_fit, slots_refused};
 ghost use Rattle.archive_btree_nodes.specs.Layout.{IsNodeLayout};
-ghost use Rattle.archive_btree_writing.specs.Nodes.{borrowed, borrowed_entry, kind_of, node_of, AreChildren, CanWrite, LaysBehind};
+ghost use Rattle.archive_btree_writing.specs.Nodes.{borrowed, borrowed_entry, kind_of, node_of, AreChildren, LaysBehind};
 ghost use Rattle.archive_forms_values.specs.Claims.{as_usize};
 
 use crate::children::Children;
@@ -206,7 +206,7 @@ fn write_own<'a, K: Archive, V, A: ArchiveWith<V>, S: Writer + Allocator, const 
 
 /// Writes the node of entries, whose data is written, from the next position of its alignment on, and returns its
 /// position.
-fn write_behind<'a, K: Archive, V, A: ArchiveWith<V>, S: Writer + Allocator, const E: usize>(
+pub fn write_behind<'a, K: Archive, V, A: ArchiveWith<V>, S: Writer + Allocator, const E: usize>(
     with: &A,
     entries: &[(&'a K, &'a V)],
     kept: &[(K::Resolver, A::Resolver)],
@@ -230,25 +230,4 @@ fn write_behind<'a, K: Archive, V, A: ArchiveWith<V>, S: Writer + Allocator, con
     check_place(to, size)?;
     write_own::<K, V, A, S, E>(with, entries, kept, children, layout, size, serializer)?;
     Ok(to)
-}
-
-/// Writes a node as `write_behind` does, where `kept` is an array of resolvers, the first of which are those of the
-/// entries.
-pub fn write_kept<'a, K: Archive, V, A: ArchiveWith<V>, S: Writer + Allocator, const E: usize>(
-    with: &A,
-    entries: &[(&'a K, &'a V)],
-    kept: [(K::Resolver, A::Resolver); E],
-    children: Option<Children<'_>>,
-    serializer: &mut S,
-) -> Result<usize, Error>
-    requires { CanWrite E children
-        (borrowed_entry E K.Archived.shape A.Archived.shape K.spelling (A.spelling with.now))
-        entries.now (take (length entries.now) kept) S.failures serializer.old }
-    ensures { (st : State) → take (length entries.now) kept
-        ≡ resolvers (borrowed_entry E K.Archived.shape A.Archived.shape K.spelling (A.spelling with.now))
-        entries.now st
-        → LaysBehind E K.Archived.shape A.Archived.shape (borrowed K.spelling) (borrowed (A.spelling with.now)) S.Writer (node_of children.entry entries.now) st serializer.old serializer.new (S.pos serializer.old) result }
-{
-    let kept = kept.as_slice();
-    write_behind::<K, V, A, S, E>(with, entries, &kept[..entries.len()], children, serializer)
 }

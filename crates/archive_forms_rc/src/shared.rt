@@ -89,10 +89,16 @@ pub fn check_rc_each<
     let Some(target) = RawRelPtrI32::target(Ref::new(bytes, pos)) else {
         return Err(Error::InvalidSubtreePointer { size });
     };
-    if !visit::<T, L, C>(alloc, context, target, 1)? {
+    let is_first = match visit::<T, L, C>(alloc, context, target, 1) {
+        Ok(is_first) => is_first,
+        Err(e) => return Err(e),
+    };
+    if !is_first {
         return Ok(());
     }
-    check_behind_each::<T, C, F>(bytes, target, context, step)?;
+    if let Err(e) = check_behind_each::<T, C, F>(bytes, target, context, step) {
+        return Err(e);
+    }
     context.finish_shared(target)
 }
 

@@ -88,11 +88,17 @@ pub fn check_rc_slice_each<
     let Some(target) = RelPtr::target(pointer) else {
         return Err(Error::InvalidSubtreePointer { size });
     };
-    if !visit::<Slice<T>, L, C>(alloc, context, target, len)? {
+    let is_first = match visit::<Slice<T>, L, C>(alloc, context, target, len) {
+        Ok(is_first) => is_first,
+        Err(e) => return Err(e),
+    };
+    if !is_first {
         return Ok(());
     }
     // The pointer has the own bytes of a vector.
-    check_vec_each::<T, C, F>(bytes, pos, context, step)?;
+    if let Err(e) = check_vec_each::<T, C, F>(bytes, pos, context, step) {
+        return Err(e);
+    }
     context.finish_shared(target)
 }
 

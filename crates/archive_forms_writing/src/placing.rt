@@ -69,6 +69,28 @@ fn resolve_into<T: Archive>(
     value.resolve(resolver, Place::new(out, pos))
 }
 
+/// Writes the own bytes of a value at the writer's position, by way of `own`, which has only zeros. The value's data was
+/// written before.
+fn write_through<T: Archive, W: Writer>(
+    value: &T,
+    resolver: T::Resolver,
+    writer: &mut W,
+    own: &mut [u8],
+) -> Result<(), Error>
+    requires room { W.failures writer.old < 2 ^ 64 - 1 }
+    requires made { (st : State) × (resolver ≡ T.spelling.resolver value.now st) }
+    requires blank { own.old ≡ zeros (size_of T.Archived.shape) }
+    requires stands { W.pos writer.old + size_of T.Archived.shape < 2 ^ 64 }
+    ensures { Lays W.Writer writer.old writer.new (T.spelling.own value.now resolver (W.pos writer.old))
+        (λ _. placed_fits T.spelling T.Archived.shape value.now resolver (W.pos writer.old))
+        (placed_refused T.spelling T.Archived.shape value.now resolver (W.pos writer.old)) result }
+{
+    match resolve_into(value, resolver, writer.pos(), own) {
+        Ok(()) => writer.write(own),
+        Err(e) => Err(e),
+    }
+}
+
 /// Writes the own bytes of a value at the writer's position. The value's data was written before.
 ///
 /// Returns `PositionTooLarge` if the own bytes would end after position 2^64 - 1, and `OutOfMemory` if the allocation
@@ -85,12 +107,12 @@ pub fn resolve_aligned<T: Archive, W: Writer>(
         (λ _. placed_fits T.spelling T.Archived.shape value.now resolver (W.pos writer.old))
         (placed_refused T.spelling T.Archived.shape value.now resolver (W.pos writer.old)) result }
 {
-    let pos = writer.pos();
     let size = T::Archived::SIZE;
-    if pos.checked_add(size).is_none() {
+    if writer.pos().checked_add(size).is_none() {
         return Err(Error::PositionTooLarge);
     }
-    let mut own = vec![in alloc; 0u8; size]?;
-    resolve_into(value, resolver, pos, own.as_mut_slice())?;
-    writer.write(own.as_slice())
+    match vec![in alloc; 0u8; size] {
+        Ok(mut own) => write_through(value, resolver, writer, own.as_mut_slice()),
+        Err(_) => Err(Error::OutOfMemory),
+    }
 }

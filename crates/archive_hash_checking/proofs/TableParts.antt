@@ -3,7 +3,7 @@ use Rattle.std.proofs.Common.{◌≡◌, ◌≢◌, ℕ, ◌+◌, ◌-◌, ◌*�
 use Rattle.std.proofs.lemmas.Bool.{le-leb}
 use Rattle.archive_shape_layout.specs.Bytes.{window}
 use Rattle.archive_shape_layout.specs.Value.Value.{group}
-use Rattle.archive_shape_layout.specs.Content.{Names, Item, content_of, made, item_size, control_count, wraps, buckets_span, buckets_content, tagged_items}
+use Rattle.archive_shape_layout.specs.Content.{Names, Item, Span, content_of, made, item_size, control_count, wraps, buckets_span, buckets_content, tagged_items}
 use Rattle.archive_shape_layout.specs.Content.Part.{buckets}
 use Rattle.archive_shape_layout.specs.Content.Label.{whole}
 use Rattle.archive_shape_layout.specs.Content.Content.{claimed}
@@ -11,17 +11,24 @@ use Rattle.archive_shape_layout.proofs.Framed.{le_align_up}
 use Rattle.archive_shape.specs.Questions.{AreAnswered, FirstUnanswered, questions_of, questions_of_controls}
 use Rattle.archive_shape.specs.PartFault.PartFault.{fault_unanswered}
 use Rattle.archive_shape.specs.Kept.{Kept, range_of, popped, Advances, IsWithin}
-use Rattle.archive_shape.specs.Checks.{Checks, ChecksAll}
+use Rattle.archive_shape.specs.Checks.{Checks, ChecksAll, Moves}
 use Rattle.archive_shape.specs.Steps.{Narrower}
 use Rattle.archive_shape.specs.declared.checking.context.PushedRange.{PushedRange}
 use Rattle.archive_shape_writing.specs.declared.error.Error.{Error}
 use Rattle.archive_shape_writing.specs.declared.error.Error.TheVariants.{OutOfMemory}
-use Rattle.archive_forms_values.proofs.Claimed.{pushed_fits, pushed_within, pushed_narrow, pushed_records, one_of_elements}
+use Rattle.archive_forms_values.proofs.Claimed.{Pushes, popped_behind, pushed_fits, pushed_within, pushed_narrow, pushed_records, one_of_elements}
 use Rattle.archive_forms_values.proofs.Claiming.{pushes_of, fault_inside, accepted_inside}
 use Rattle.archive_forms_values.proofs.Chosen.{chosen}
 use Rattle.archive_hash_checking.specs.Buckets.{AreClaimed, claim_of_buckets, questions_of_tags}
 use Rattle.archive_hash_checking.proofs.Asked.{Decides, behind_answered, both_answered, refused_before}
 use Rattle.archive_hash_checking.proofs.ControlChecks.{controls_wrap}
+
+-- a region is popped behind what was checked in it
+pub popped_moves : {k l : Kept} {s : Span} {r : PushedRange} → Pushes k s r l → (m o : Kept) (result : Result (Unit {0}) Error) → Advances l m → o ≡ popped m r k.pushes → Moves k result o
+popped_moves {k} {l} {s} {r} push m o (Ok u) i is =
+    let within = push.answered.0 in
+    subst (Advances k) (sym (popped_behind push m o i is)) (record { begins = omega (arith, within.begins); ordered = omega (arith, within.ends); frame = refl })
+popped_moves push m o (Err e) i is = tt
 
 pub places_first : (cap : ℕ) → cap ≤ control_count cap
 unfolding control_count

@@ -66,9 +66,16 @@ pub(crate) fn check_buckets<
         → Checks names bytes.now (buckets target len capacity (item T.shape)) (C.kept context.old) result (C.kept context.new) }
 {
     let _len = bytes.len();
-    let range = claim_buckets::<T, C>(target, capacity, context)?;
+    let range = match claim_buckets::<T, C>(target, capacity, context) {
+        Ok(range) => range,
+        Err(e) => return Err(e),
+    };
     let controls = controls_at(bytes, target, capacity);
-    check_tags(controls, capacity, len)?;
-    check_items::<T, C, F>(bytes, target, &controls[..capacity], context, step)?;
+    if let Err(e) = check_tags(controls, capacity, len) {
+        return Err(e);
+    }
+    if let Err(e) = check_items::<T, C, F>(bytes, target, &controls[..capacity], context, step) {
+        return Err(e);
+    }
     context.pop_subtree_range(range)
 }

@@ -30,7 +30,9 @@ pub(crate) fn check_items<
     for place in 0..controls.len() {
         bucket -= size;
         if controls[place] < 128 {
-            step(context, bucket)?;
+            if let Err(e) = step(context, bucket) {
+                return Err(e);
+            }
         }
     }
     Ok(())

@@ -3,7 +3,8 @@ ghost use Rattle.std.specs.Prelude.{IfOk, IfErr};
 ghost use Rattle.cab.specs.Building.{Builds, RefusesText, EndsBuildBy};
 
 use crate::replacing;
-use cab_files::{Fault, read_text, standard_output, to_bytes};
+use cab_files::{Fault, standard_output};
+use cabinet::{read_text, to_bytes};
 use std::alloc::Global;
 use std::fs;
 use std::fs::File;

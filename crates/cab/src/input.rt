@@ -1,7 +1,7 @@
 //! The standard input as a source of lines, whose bytes are not known, so that contracts cannot name them.
 ghost use Rattle.std.specs.Prelude.{◌≡◌, ◌≤◌, false, [], length, IfOk};
 
-use cab_files::{Source, SourceFailed};
+use cabinet::{Source, SourceFailed};
 use std::io;
 use std::io::{ErrorKind, Read};
 

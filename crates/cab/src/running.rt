@@ -7,7 +7,8 @@ ghost use Rattle.cab.specs.Ending.{IsFlushed, IsFirstFault, EditsArchive, EndsRu
 
 use crate::input::InputStream;
 use crate::replacing::write_back;
-use cab_files::{Count, Fault, OutputStream, RunCause, RunFault, check, read, run_in};
+use cab_files::{Fault, OutputStream, read};
+use cabinet::{Count, RunCause, RunFault, check, run_in};
 use std::alloc::Global;
 use std::fs::{File, Metadata};
 use std::io;

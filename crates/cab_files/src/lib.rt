@@ -7,10 +7,7 @@ mod output;
 mod reading;
 
 pub use arguments::words;
-pub use cabinet::{
-    Count, Document, Fault, OpenRefusal, RunCause, RunFault, Source, SourceFailed, check,
-    fault_line, load, read_text, run_in, to_bytes, write_text,
-};
+pub use cabinet::{Fault, OpenRefusal, fault_line, write_document};
 pub use ending::{exit_code, standard_output};
 pub use output::OutputStream;
 pub use reading::read;

@@ -1,17 +1,10 @@
 //! Printing the text of an archive's document.
-ghost use Rattle.std.specs.Prelude.{◌≡◌, ◌-◌, ◌^◌, ◌<◌, IfOk, IfErr, MatchResult};
-ghost use Rattle.archive_shape_writing.specs.Writing.{Writes};
+ghost use Rattle.std.specs.Prelude.{IfErr};
 ghost use Rattle.cab_files.specs.Cabinet.Archives.Refused.{refusal_of};
-ghost use Rattle.cab_files.specs.Cabinet.Documents.Accepted.{Accepted};
 ghost use Rattle.cab_files.specs.Cabinet.Documents.Audit.{IsRefusedFor};
-ghost use Rattle.cab_files.specs.Cabinet.TextGrammar.Spelling.{text_of};
-ghost use Rattle.cab_files.specs.Cabinet.TextGrammar.Tree.{Tree};
 ghost use Rattle.cab_show.specs.Showing.{EndsShowBy};
 
-use archive_shape_writing::{Error, Writer};
-use cab_files::{
-    Document, Fault, OpenRefusal, OutputStream, check, load, read, standard_output, write_text,
-};
+use cab_files::{Fault, OpenRefusal, OutputStream, read, standard_output, write_document};
 use std::alloc::Global;
 use std::fs::File;
 use std::io;
@@ -20,33 +13,6 @@ use std::rt::Files;
 
 /// The maximum number of bytes of the text that wait to be written.
 const BUFFER: usize = 65536;
-
-/// Returns the document that the bytes are the archive of.
-fn document_of(alloc: Global, archive: &[u8]) -> Result<Document, OpenRefusal>
-    ensures document { IfOk result (λ document. Accepted archive.now document) }
-    ensures refused { IfErr result (λ refusal. IsRefusedFor archive.now (refusal_of refusal)) }
-{
-    check(alloc, archive)?;
-    match load(alloc, archive) {
-        Ok(document) => Ok(document),
-        Err(_) => Err(OpenRefusal::OutOfMemory),
-    }
-}
-
-/// Writes the text of the document that the bytes are the archive of. Of bytes that are refused nothing is written.
-pub fn write_document<W: Writer>(
-    alloc: Global,
-    archive: &[u8],
-    writer: &mut W,
-) -> Result<Result<(), Error>, OpenRefusal>
-    requires { W.failures writer.old < 2 ^ 64 - 1 }
-    ensures { MatchResult result
-        (λ written. (t : Tree) × Accepted archive.now t × Writes W.Writer writer.old writer.new (text_of t) written)
-        (λ refusal. IsRefusedFor archive.now (refusal_of refusal) × (writer.new ≡ writer.old)) }
-{
-    let document = document_of(alloc, archive)?;
-    Ok(write_text(&document, writer))
-}
 
 /// Prints the text of the document that the bytes are the archive of, and returns whether all of it was printed.
 fn print_document<R: Print>(rt: &R, alloc: Global, archive: &[u8]) -> Result<bool, OpenRefusal>

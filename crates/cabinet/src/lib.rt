@@ -6,6 +6,7 @@ pub mod laws;
 mod opened;
 mod refusals;
 mod session;
+mod showing;
 mod source;
 mod working;
 
@@ -21,5 +22,6 @@ pub use cabinet_text_reading::{TextRefusal, read_line, read_text};
 pub use fault::{Fault, fault_line};
 pub use opened::{Opened, open, open_scanned};
 pub use session::{Count, RunCause, RunFault, run};
+pub use showing::write_document;
 pub use source::{Source, SourceFailed};
 pub use working::{Worked, run_in, work};

@@ -20,7 +20,7 @@ use Rattle.archive_forms_values.proofs.Pointed.{made_whole}
 use Rattle.archive_forms_values.proofs.FormsLaws.TextContent.{followed}
 use Rattle.cabinet_documents.specs.Walk.{Stop, Walks, WalkAll}
 use Rattle.cabinet_documents.specs.Table.{kept_at, table_of}
-use Rattle.cabinet_documents.specs.Audit.{Unsound, too_deep, unless, faults, kept_faults}
+use Rattle.cabinet_documents.specs.Audit.{too_deep, unless, faults, kept_faults}
 use Rattle.cabinet_documents.proofs.Begun.{own_faults, faults-append, faults-flat, begun, not_walked, no_walks, first_walk, only_walk, ends}
 use Rattle.cabinet_documents.proofs.TableSound.{no_table, index_content}
 use Rattle.cabinet_documents.proofs.TableWalks.{pair_place, place_walked}

@@ -1,16 +1,15 @@
 -- The faults in the walk of a node, by the node's kind.
-use Rattle.std.proofs.Common.{◌≡◌, ◌∙◌, ℕ, zero, suc, ◌+◌, ◌*◌, ◌<◌, ◌≤◌, Bool, true, false, nat_lt, ◌==◌, List, [], ◌∷◌, ◌++◌, length, get_or, slice_index, Option, Some, None, refl, sym, ap, subst, arith, append-nil, eqb-true, w8, w64}
+use Rattle.std.proofs.Common.{◌≡◌, ◌∙◌, ℕ, zero, suc, ◌+◌, ◌*◌, ◌<◌, ◌≤◌, Bool, true, false, nat_lt, ◌==◌, List, [], ◌∷◌, ◌++◌, length, get_or, slice_index, Option, Some, None, refl, sym, ap, subst, arith, append-nil, eqb-true, w64}
 use Rattle.std.specs.List.{flat_map}
 use Rattle.std.specs.Int.{from_le_bytes}
 use Rattle.archive_forms_values.specs.ShapeLayout.Bytes.{window, align_up, word_at, target_from}
 use Rattle.archive_forms_values.specs.ShapeLayout.Shape.{Shape, align_of, size_of}
-use Rattle.archive_forms_values.specs.ShapeLayout.Shape.Shape.{number, truth, text, choice, shared, array}
-use Rattle.archive_forms_values.specs.ShapeLayout.Shape.Shapes.{no_shapes}
+use Rattle.archive_forms_values.specs.ShapeLayout.Shape.Shape.{number, truth, text, shared}
 use Rattle.archive_forms_values.specs.ShapeLayout.Shape.Pointee.{slice, str}
 use Rattle.archive_forms_values.specs.ShapeLayout.Value.{Value, Values}
 use Rattle.archive_forms_values.specs.ShapeLayout.Value.Value.{boolean, group, chosen}
 use Rattle.archive_forms_values.specs.ShapeLayout.Value.Values.{no_values}
-use Rattle.archive_forms_values.specs.ShapeLayout.Content.{Names, Part, Label, content_of, choose, following, made, option_content, shape_tagged, shape_content, shared_content, pointee_content, number_value, fields, elements}
+use Rattle.archive_forms_values.specs.ShapeLayout.Content.{Names, Part, Label, content_of, choose, following, made, option_content, shape_tagged, shape_content, shared_content, pointee_content, number_value, elements}
 use Rattle.archive_forms_values.specs.ShapeLayout.Content.Part.{at, behind}
 use Rattle.archive_forms_values.specs.ShapeLayout.Content.Label.{leaf, same, whole, tagged}
 use Rattle.archive_forms_values.specs.ShapeLayout.Content.Content.{illegal, plain, claimed, counting}

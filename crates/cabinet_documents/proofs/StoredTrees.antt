@@ -11,7 +11,7 @@ use Rattle.archive_forms_values.specs.ShapeWriting.declared.error.Error.TheVaria
 use Rattle.archive_forms_values.specs.ShapeCanonical.Packed.{levels_for}
 use Rattle.archive_forms_values.specs.ShapeCanonical.Settled.{Fit}
 use Rattle.archive_forms_values.specs.ShapeCanonical.Plan.{Target, Plan, flat, leads, Plans}
-use Rattle.archive_forms_values.specs.ShapeCanonical.Limits.{Field, offset, position, count, IsSomePast, Shared, moved, Lies, lies_parts, lies_leads, LieAll}
+use Rattle.archive_forms_values.specs.ShapeCanonical.Limits.{Field, count, IsSomePast, Shared, moved, Lies, lies_parts, lies_leads, LieAll}
 use Rattle.archive_forms_values.specs.ShapeCanonical.Limits as limits
 use Rattle.archive_forms_values.specs.FormsLaws.State.{State}
 use Rattle.archive_forms_values.specs.FormsLaws.Spelling.{Spelling, state_after}

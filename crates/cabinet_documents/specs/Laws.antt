@@ -5,7 +5,7 @@ use Rattle.archive_forms_values.specs.ShapeLayout.Content.{Names, Part}
 use Rattle.archive_forms_values.specs.ShapeLayout.Shape.{Shape}
 use Rattle.archive_forms_values.specs.ShapeLayout.Shape.Pointee.{sized}
 use Rattle.archive_forms_values.specs.ShapeLayout.Value.{Values}
-use Rattle.archive_forms_values.specs.ShapeLayout.Content.Part.{at, behind}
+use Rattle.archive_forms_values.specs.ShapeLayout.Content.Part.{behind}
 use Rattle.archive_forms_values.specs.ShapeLayout.Holds.{Region, Visit, OpenShared, Holds, HoldAll, HasRoot, root_position}
 use Rattle.archive_forms_values.specs.ShapeLayout.Holds.Holds.{holds_plain, holds_claimed, holds_first, holds_later, holds_back}
 use Rattle.archive_forms_values.specs.ShapeLayout.Holds.HoldAll.{holds_none, holds_more}

@@ -8,7 +8,7 @@ use Rattle.archive_forms_values.specs.ShapeCanonical.Settled.{Fit}
 use Rattle.archive_forms_values.specs.ShapeCanonical.Sharing.{erased}
 use Rattle.archive_forms_values.specs.ShapeWriting.Writing.{WriterMembers}
 use Rattle.archive_forms_values.specs.ShapeWriting.declared.error.Error.{Error}
-use Rattle.archive_forms_values.specs.FormsLaws.State.{State, initial}
+use Rattle.archive_forms_values.specs.FormsLaws.State.{initial}
 use Rattle.archive_forms_values.specs.FormsLaws.Spells.{Spells}
 use Rattle.archive_forms_values.specs.FormsLaws.Serializing.{Serializes}
 use Rattle.archive_forms_values.specs.FormsLaws.Regions.{region_fits, region_piece, region_refused}

@@ -7,13 +7,7 @@ pub mod archives;
 mod row;
 
 pub use archive_doubles::FailingWriter;
-use cabinet::Source;
-pub use cabinet::{
-    Asked, Cause, Count, Document, Fault, Group1, Group8, Group16, Kind, Leaf, Line, LineRefusal,
-    Node, OpenRefusal, Opened, RunCause, RunFault, SaveRefusal, Scan, SetAnswer, SourceFailed,
-    Step, Steps, TextRefusal, check, check_scanned, fault_line, open, open_scanned, read_line,
-    read_text, run, save, to_bytes, work, write_text,
-};
+use cabinet::{Source, SourceFailed};
 pub use row::{Edit, ROWS, Row, count_lines, line_at};
 
 /// A source that gives at most `most` bytes at a time, and fails after `reads_left` reads.

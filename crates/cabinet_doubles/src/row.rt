@@ -2,11 +2,12 @@
 
 use crate::archives::{COFFEE_AND_TEA, TWO_SHARED, VAT_IN_EU, Z_AND_A};
 
-/// An edit: how many lines precede it, and the bytes of the archive that it changes, each with its index.
+/// An edit: how many lines precede it, the bytes that it writes, and the position in the archive where it writes them.
 #[derive(Clone, Copy)]
 pub struct Edit {
     pub line: usize,
-    pub changes: [(usize, u8); 2],
+    pub position: usize,
+    pub bytes: &'static [u8],
 }
 
 /// The text and the archive of a document, and lines about it with their answers. At most one line is an edit that is done.
@@ -28,7 +29,8 @@ pub const ROWS: [Row<'static, 'static>; 4] = [
         answers: b"ordered 2\nint 250\nok\nint 275\n",
         edit: Some(Edit {
             line: 2,
-            changes: [(80, 0x13), (81, 0x01)],
+            position: 80,
+            bytes: b"\x13\x01",
         }),
     },
     Row {
@@ -38,7 +40,8 @@ pub const ROWS: [Row<'static, 'static>; 4] = [
         answers: b"int 19\nok\nint 20\nint 7\nmissing\n",
         edit: Some(Edit {
             line: 1,
-            changes: [(32, 0x14), (32, 0x14)],
+            position: 32,
+            bytes: b"\x14",
         }),
     },
     Row {
@@ -55,7 +58,8 @@ pub const ROWS: [Row<'static, 'static>; 4] = [
         answers: b"keys 2 'z 'a\nint 2\nmissing\nmissing\nok\n",
         edit: Some(Edit {
             line: 4,
-            changes: [(96, 3), (96, 3)],
+            position: 96,
+            bytes: b"\x03",
         }),
     },
 ];
@@ -114,11 +118,9 @@ impl Row<'_, '_> {
         let Some(edit) = self.edit else {
             return;
         };
-        for (index, value) in edit.changes {
-            if let Some(byte) = archive.get_mut(index)
-                && edit.line < count
-            {
-                *byte = value;
+        if edit.line < count {
+            for (byte, value) in archive.iter_mut().skip(edit.position).zip(edit.bytes) {
+                *byte = *value;
             }
         }
     }

@@ -1,7 +1,7 @@
 //! What calls need, made twice where memory for it is refused once.
 
 use archive_core_serializing::Buffer;
-use cabinet_doubles::{Document, Line, read_line, read_text, write_text};
+use cabinet::{Document, Line, read_line, read_text, write_text};
 use std::alloc::{AllocError, Global};
 
 /// Returns whether this is the text of a document. Takes no memory.

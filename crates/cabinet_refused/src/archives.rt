@@ -2,9 +2,10 @@
 
 use crate::again::{copy_of, document_of, has_text};
 use crate::tally::Outcome;
-use cabinet_doubles::{
-    OpenRefusal, Opened, Row, SaveRefusal, Scan, check_scanned, open, open_scanned, save, to_bytes,
+use cabinet::{
+    OpenRefusal, Opened, SaveRefusal, Scan, check_scanned, open, open_scanned, save, to_bytes,
 };
+use cabinet_doubles::Row;
 use std::alloc::Global;
 
 /// Makes an archive.

@@ -4,7 +4,8 @@ use crate::archives::{checks, loads, makes_bytes, opens, saves};
 use crate::plain::{answers, reads_lines, reads_text, writes_text};
 use crate::sessions::{asks, runs, works};
 use crate::tally::{Outcome, Tally};
-use cabinet_doubles::{Group1, Group8, Group16, Row};
+use cabinet::{Group1, Group8, Group16};
+use cabinet_doubles::Row;
 use std::alloc::Global;
 
 /// A call that takes memory, or whose writer does.

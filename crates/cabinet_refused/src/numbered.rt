@@ -2,7 +2,8 @@
 
 use crate::call::make_each;
 use crate::tally::{Outcome, Tally};
-use cabinet_doubles::{Row, read_text, to_bytes};
+use cabinet::{read_text, to_bytes};
+use cabinet_doubles::Row;
 use std::alloc::{AllocError, Global};
 
 /// A kind of maps, the number of keys, and the size of the archive.

@@ -2,9 +2,8 @@
 
 use crate::again::{document_of, has_text, line_of};
 use crate::tally::Outcome;
-use cabinet_doubles::{
-    Cause, Document, Line, LineRefusal, Row, count_lines, line_at, read_line, read_text, write_text,
-};
+use cabinet::{Cause, Document, Line, LineRefusal, read_line, read_text, write_text};
+use cabinet_doubles::{Row, count_lines, line_at};
 use cabinet_text::answer;
 use std::alloc::Global;
 

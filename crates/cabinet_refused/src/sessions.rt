@@ -3,10 +3,8 @@
 use crate::again::{copy_of, document_of, line_of};
 use crate::plain::begins;
 use crate::tally::Outcome;
-use cabinet_doubles::{
-    Count, Line, OpenRefusal, Opened, Row, RunCause, RunFault, SaveRefusal, SliceSource,
-    count_lines, line_at, open, run, work,
-};
+use cabinet::{Count, Line, OpenRefusal, Opened, RunCause, RunFault, SaveRefusal, open, run, work};
+use cabinet_doubles::{Row, SliceSource, count_lines, line_at};
 use std::alloc::Global;
 
 /// The number of bytes that a source gives at a time, so that a line does not lie whole in them.

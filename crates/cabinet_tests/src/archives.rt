@@ -15,6 +15,18 @@ pub const TWO: &[u8; 72] =
 pub const TWO_OPTIONS: &[u8; 120] =
     b"\x01\0\0\0\0\0\0\0\x01\0\0\0\0\0\0\0\0\0\0\0\0\0\0\0\x01\0\0\0\0\0\0\0\x02\0\0\0\0\0\0\0\0\0\0\0\0\0\0\0\x04\0\0\0\x01\0\0\0\xc8\xff\xff\xff\0\0\0\0\0\0\0\0\0\0\0\0\x04\0\0\0\x01\0\0\0\xc8\xff\xff\xff\0\0\0\0\0\0\0\0\0\0\0\0\x05\0\0\0\xcc\xff\xff\xff\x02\0\0\0\0\0\0\0\0\0\0\0\0\0\0\0";
 
+/// The archive of an option of `int 5`.
+pub const OPTION: &[u8; 48] =
+    b"\x01\0\0\0\0\0\0\0\x05\0\0\0\0\0\0\0\0\0\0\0\0\0\0\0\x04\0\0\0\x01\0\0\0\xe0\xff\xff\xff\0\0\0\0\0\0\0\0\0\0\0\0";
+
+/// The archive of `text 'hello\sworld!`.
+pub const TEXT: &[u8; 40] =
+    b"hello world!\0\0\0\0\x02\0\0\0\x8c\0\0\0\xec\xff\xff\xff\0\0\0\0\0\0\0\0\0\0\0\0";
+
+/// The archive of a list of a list of `int 7` and `int 19`, and of `int 5`.
+pub const LIST: &[u8; 120] =
+    b"\x01\0\0\0\0\0\0\0\x07\0\0\0\0\0\0\0\0\0\0\0\0\0\0\0\x01\0\0\0\0\0\0\0\x13\0\0\0\0\0\0\0\0\0\0\0\0\0\0\0\x05\0\0\0\xcc\xff\xff\xff\x02\0\0\0\0\0\0\0\0\0\0\0\0\0\0\0\x01\0\0\0\0\0\0\0\x05\0\0\0\0\0\0\0\0\0\0\0\0\0\0\0\x05\0\0\0\xcc\xff\xff\xff\x02\0\0\0\0\0\0\0\0\0\0\0\0\0\0\0";
+
 /// A shared text of twelve bytes, and its node.
 pub const SHARED: &[u8; 40] =
     b"hello world!....\x03\0\0\0\xec\xff\xff\xff\x0c\0\0\0\0\0\0\0\0\0\0\0\0\0\0\0";
@@ -32,6 +44,10 @@ pub const EMPTY_KEPT: &[u8; 24] = b"\x08\0\0\0\x01\0\0\0\0\0\0\0\0\0\0\0\x01\0\0
 /// An ordered map without pairs, with other bytes where no field is, and in its pointer.
 pub const EMPTY_ORDERED: &[u8; 24] =
     b"\x06\xaa\xaa\xaa\xaa\xaa\xaa\xaa\0\0\0\0\xaa\xaa\xaa\xaa\xaa\xaa\xaa\xaa\xaa\xaa\xaa\xaa";
+
+/// The map from coffee to 300 and from tea to 250, with other bytes where no field is, and seven more after it.
+pub const LOOSE: &[u8; 207] =
+    b"\0\0\0\0coffee\xff\xfftea\xff\xff\xff\xff\xff\0\0\0\0\0\0\0\0\0\0\0\0\0\0\0\0\0\0\0\0\0\0\0\0\0\0\0\0\x01\0\0\0\0\0\0\0,\x01\0\0\0\0\0\0\0\0\0\0\0\0\0\0\x01\0\0\0\0\0\0\0\xfa\0\0\0\0\0\0\0\0\0\0\0\0\0\0\0\0\0\0\0\0\0\0\0\0\0\0\0\0\0\0\0\0\0\0\0\0\0\0\0\0\0\0\0\0\0\0\0\0\0\0\0\0\0\0\0\0\0\0\0\0\0\0\0\0\0\0\0\0\0\0\0\0\0\0\0\0\0\0\0\0\0\0\0\0\0\0\0\x02\0\0\0\0\0\0\0\x06\0\0\0L\xff\xff\xff\x02\0\0\0\xaa\xaa\xaa\xaa\xaa\xaa\xaa\xaa\xaa\xaa\xaa\xaa\xbb\xbb\xbb\xbb\xbb\xbb\xbb";
 
 /// A map from a to e to the numbers from 1 to 5: a leaf without entries from 0 on, an inner node from 176 on, whose child
 /// after the last entry is that leaf, and the root from 368 on.

@@ -1,9 +1,11 @@
 //! Tests of lines that are carried out in archives, by each scan, and where a read or a write fails.
-use cabinet_doubles::archives::A_TO_WORLD;
-use cabinet_doubles::{
-    Asked, Edit, FailingWriter, Group1, Group8, Group16, Line, ROWS, Row, RunCause, Scan,
-    SetAnswer, SliceSource, count_lines, open, open_scanned, read_line, run,
+use crate::archives::{A_APART, LOOSE};
+use cabinet::{
+    Asked, Group1, Group8, Group16, Line, RunCause, Scan, SetAnswer, open, open_scanned, read_line,
+    run,
 };
+use cabinet_doubles::archives::A_TO_WORLD;
+use cabinet_doubles::{Edit, FailingWriter, ROWS, Row, SliceSource, count_lines};
 use std::alloc::Global;
 use std::test::Fail;
 
@@ -46,21 +48,43 @@ fn is_carried_out<G: Scan>(alloc: Global, row: &Row<'_, '_>, most: usize) -> boo
     }
 }
 
-/// A hashed map of one text, which is written over by a text of its length alone.
-const HASHED: Row<'static, 'static> = Row {
-    text: b"hashed 1\n'a\ntext 'world\n",
-    archive: A_TO_WORLD,
-    lines: b"set text 'worlD 'a\nget 'a\nset text 'worlds 'a\nget 'a\nkeys\nget 'b\n",
-    answers: b"ok\ntext 'worlD\nrefused\ntext 'worlD\nwrong\nmissing\n",
-    edit: Some(Edit {
-        line: 0,
-        changes: [(16, b'D'), (16, b'D')],
-    }),
-};
+/// A hashed map of one text, which is written over by a text of its length alone; a key in another place that its search
+/// shows; and an ordered map with other bytes where no field is, which stay.
+const MAPS: [Row<'static, 'static>; 3] = [
+    Row {
+        text: b"hashed 1\n'a\ntext 'world\n",
+        archive: A_TO_WORLD,
+        lines: b"set text 'WORLD 'a\nget 'a\nset text 'worlds 'a\nget 'a\nkeys\nget 'b\n",
+        answers: b"ok\ntext 'WORLD\nrefused\ntext 'WORLD\nwrong\nmissing\n",
+        edit: Some(Edit {
+            line: 0,
+            position: 12,
+            bytes: b"WORLD",
+        }),
+    },
+    Row {
+        text: b"hashed 1\n'a\nint 1\n",
+        archive: A_APART,
+        lines: b"get 'a\nget 'b\n",
+        answers: b"int 1\nmissing\n",
+        edit: None,
+    },
+    Row {
+        text: b"ordered 2\n'coffee\nint 300\n'tea\nint 250\n",
+        archive: LOOSE,
+        lines: b"set int 275 'tea\n",
+        answers: b"ok\n",
+        edit: Some(Edit {
+            line: 0,
+            position: 80,
+            bytes: b"\x13\x01",
+        }),
+    },
+];
 
 #[test]
 fn lines_in_pieces_are_carried_out_by_each_scan(rt: HostRuntime) {
-    for row in ROWS.iter().chain(&[HASHED]) {
+    for row in ROWS.iter().chain(&MAPS) {
         for most in [1, 2, 3, 5, 7, 16, 16384] {
             assert!(rt; is_carried_out::<Group1>(rt.alloc(), row, most));
             assert!(rt; is_carried_out::<Group8>(rt.alloc(), row, most));

@@ -1,9 +1,7 @@
 //! Tests of documents that are loaded from archives.
 use crate::archives::SHARED_APART;
+use cabinet::{Document, Leaf, Node, SetAnswer, Step, open, write_text};
 use cabinet_doubles::archives::{A_TO_WORLD, TWO_SHARED};
-use cabinet_doubles::{
-    Document, Leaf, Node, SetAnswer, Step, open, read_text, to_bytes, write_text,
-};
 use std::rc::RcStr;
 use std::test::Fail;
 

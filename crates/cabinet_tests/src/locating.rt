@@ -1,11 +1,11 @@
 //! Tests of the kinds that paths lead to, and of what the look-ups on them take, by each scan.
 use crate::archives::{A_APART, EMPTY_HASHED, EMPTY_KEPT, EMPTY_ORDERED, FIVE_ABOVE_NONE, tall};
 use archive_shape_writing::Error;
-use cabinet_doubles::archives::{A_TO_WORLD, COFFEE_AND_TEA, VAT_IN_EU, Z_AND_A};
-use cabinet_doubles::{
+use cabinet::{
     Document, Group1, Group8, Group16, Kind, Line, Node, OpenRefusal, Scan, Step, Steps, check,
     open, open_scanned, read_line, to_bytes,
 };
+use cabinet_doubles::archives::{A_TO_WORLD, COFFEE_AND_TEA, VAT_IN_EU, Z_AND_A};
 use std::alloc::{AllocError, Global};
 use std::collections::BTreeMap;
 use std::test::Fail;
@@ -88,13 +88,57 @@ fn trees_have_at_most_32_levels_of_five_comparisons(rt: HostRuntime) -> Result<(
     Ok(())
 }
 
+/// Returns the decimal texts of the numbers below `count`, each with its number.
+fn numbers(alloc: Global, count: i64) -> Result<BTreeMap<String, Node>, Fail> {
+    let mut pairs = BTreeMap::new(alloc);
+    for number in 0..count {
+        pairs.insert(format!(in alloc; "{number}")?, Node::Int(number))?;
+    }
+    Ok(pairs)
+}
+
+/// Returns whether a look-up by a scan finds each of these texts in a hashed map that has them as keys, with at most so
+/// many strides.
+fn is_each_found<G: Scan>(alloc: Global, archive: &[u8], count: i64, most: usize) -> bool {
+    for number in 0..count {
+        let Ok(text) = format!(in alloc; "{number}") else {
+            return false;
+        };
+        match located::<G>(alloc, archive, &[Step::Key(text)]) {
+            Some((Some(Kind::Int), steps)) if steps.strides <= most && steps.comparisons == 0 => {}
+            _ => return false,
+        }
+    }
+    true
+}
+
+#[test]
+fn each_key_of_hashed_maps_takes_at_most_a_stride_for_sixteen_places(
+    rt: HostRuntime,
+) -> Result<(), Fail> {
+    // the last two maps have 128 places and 245
+    for (count, most) in [
+        (1, 1),
+        (5, 1),
+        (6, 1),
+        (17, 2),
+        (35, 3),
+        (36, 3),
+        (112, 8),
+        (215, 16),
+    ] {
+        let document = Document::new(Node::Hashed(numbers(rt.alloc(), count)?))?;
+        let archive = to_bytes(rt.alloc(), &document)?;
+        assert!(rt; is_each_found::<Group1>(rt.alloc(), &archive, count, most));
+        assert!(rt; is_each_found::<Group8>(rt.alloc(), &archive, count, most));
+        assert!(rt; is_each_found::<Group16>(rt.alloc(), &archive, count, most));
+    }
+    Ok(())
+}
+
 #[test]
 fn keys_of_a_map_of_215_are_compared_from_the_root_down(rt: HostRuntime) -> Result<(), Fail> {
-    let mut ordered = BTreeMap::new(rt.alloc());
-    for key in 0..215 {
-        ordered.insert(format!(in rt.alloc(); "{key}")?, Node::Int(key))?;
-    }
-    let document = Document::new(Node::Ordered(ordered))?;
+    let document = Document::new(Node::Ordered(numbers(rt.alloc(), 215)?))?;
     let mut archive = to_bytes(rt.alloc(), &document)?;
     let opened = open(rt.alloc(), archive.as_mut_slice()).map_err(|_| "refused")?;
     for (key, comparisons) in [("0", 3), ("99", 15)] {

@@ -4,8 +4,8 @@ use crate::archives::{
     TWO_OPTIONS,
 };
 use archive_shape_writing::Error;
+use cabinet::{Group1, Group8, Group16, OpenRefusal, check_scanned};
 use cabinet_doubles::archives::{COFFEE_AND_TEA, TWO_SHARED, Z_AND_A};
-use cabinet_doubles::{Group1, Group8, Group16, OpenRefusal, check_scanned};
 use std::alloc::Global;
 
 /// Bytes with other values at some positions.

@@ -1,6 +1,6 @@
 //! Tests of the texts that refusals and faults of runs are printed as.
 use archive_shape_writing::Error;
-use cabinet_doubles::{OpenRefusal, RunCause, RunFault, SaveRefusal, SourceFailed};
+use cabinet::{OpenRefusal, RunCause, RunFault, SaveRefusal, SourceFailed};
 use std::fmt::Display;
 use std::process::Abort;
 

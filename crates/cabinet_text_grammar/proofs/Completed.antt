@@ -1,5 +1,5 @@
 -- Lines that complete a tree: whether it is new, or the first cause that applies.
-use Rattle.std.proofs.Common.{◌≡◌, ◌≢◌, ℕ, zero, suc, ◌<◌, ◌≤◌, true, false, List, [], ◌∷◌, IsUtf8, ◌⊎◌, sym, ap, ◌∙◌, refl, inl, inr, subst, arith}
+use Rattle.std.proofs.Common.{◌≡◌, ◌≢◌, ℕ, zero, suc, ◌<◌, List, [], ◌∷◌, IsUtf8, ◌⊎◌, ap, ◌∙◌, refl, inl, inr, arith}
 use Rattle.std.specs.Prelude.{IsTrue}
 use Rattle.std.proofs.lemmas.Bool.{cases_Bool}
 use Rattle.cabinet_text_grammar.specs.Tree.{Tree}
@@ -9,8 +9,7 @@ use Rattle.cabinet_text_grammar.specs.Due.{nothing_more, Admits}
 use Rattle.cabinet_text_grammar.specs.Frame.{Frame, in_option, in_list, at_key, at_value}
 use Rattle.cabinet_text_grammar.specs.Due.{due_in}
 use Rattle.cabinet_text_grammar.specs.Machine.{State, going, complete, stuck, step}
-use Rattle.cabinet_text_grammar.specs.Reading.{Reading, around, IsReading, due_of, due_at, reading, take, IsNew, Suits}
-use Rattle.cabinet_text_grammar.specs.Steps.{TakesLine}
+use Rattle.cabinet_text_grammar.specs.Reading.{Reading, IsReading, due_of, due_at, reading, IsNew, Suits}
 use Rattle.cabinet_text_grammar.specs.Spelling.{spelled}
 use Rattle.cabinet_text_grammar.specs.Fault.{HasCause, rank, IsFirstCause}
 use Rattle.cabinet_text_grammar.specs.declared.cause.Cause.{Cause}

@@ -1,12 +1,12 @@
 -- When a node completes the tree that is read, and the wholes of that tree.
-use Rattle.std.proofs.Common.{◌≡◌, ℕ, zero, suc, ◌+◌, ◌<◌, length, Bool, true, false, if◌then◌else◌, List, [], ◌∷◌, sym, ap, ◌∙◌, refl, subst, arith, inl, inr}
-use Rattle.std.specs.Prelude.{◌==◌, ◌^◌}
+use Rattle.std.proofs.Common.{◌≡◌, ℕ, ◌<◌, length, if◌then◌else◌, List, [], ◌∷◌, sym, ap, ◌∙◌, refl, inl, inr}
+use Rattle.std.specs.Prelude.{◌^◌}
 use Rattle.std.proofs.lemmas.Bool.Decides.{eqb_tells}
 use Rattle.cabinet_text_grammar.specs.Tree.{Tree, leaf, shared, nothing, just, list, map, whole, Trees, no_trees, more_trees, Pairs, no_pairs, more_pairs, count, pair_count}
 use Rattle.cabinet_text_grammar.specs.Wholes.{with_wholes, with_wholes_in, with_wholes_by, wholes_of}
 use Rattle.cabinet_text_grammar.specs.Frame.{Frame, in_option, in_list, at_key, at_value}
 use Rattle.cabinet_text_grammar.specs.Due.{AdmitsHead}
-use Rattle.cabinet_text_grammar.specs.Machine.{step, plug_whole, State, going, complete, stuck, plug, then_tree, then_pair}
+use Rattle.cabinet_text_grammar.specs.Machine.{step, plug_whole, going, complete, plug, then_tree, then_pair}
 use Rattle.cabinet_text_grammar.specs.Tree.{IsLegal}
 use Rattle.cabinet_text_grammar.specs.Wholes.{IsNumbered}
 use Rattle.cabinet_text_grammar.specs.Machine.{run}

@@ -1,5 +1,5 @@
 -- The causes that apply to the line of an item that is allowed there, and the laws of first faults.
-use Rattle.std.proofs.Common.{◌≡◌, ◌≢◌, ℕ, zero, suc, ◌+◌, ◌<◌, ◌≤◌, ◌^◌, List, [], ◌∷◌, ◌++◌, length, Option, None, IsUtf8, sym, ap, ◌∙◌, refl, inl, inr, subst, arith, codes, append-nil, length-append}
+use Rattle.std.proofs.Common.{◌≡◌, ◌≢◌, ℕ, zero, suc, ◌+◌, ◌<◌, ◌^◌, List, [], ◌∷◌, ◌++◌, length, Option, None, IsUtf8, sym, ap, ◌∙◌, refl, inl, inr, subst, arith, codes, append-nil, length-append}
 use Rattle.std.specs.Prelude.{IsTrue, if◌then◌else◌, ◌==◌, slice_get}
 use Rattle.std.specs.Fmt.{decimal}
 use Rattle.std.specs.Str.Parse.{digits_value}
@@ -27,7 +27,7 @@ use Rattle.cabinet_text_grammar.proofs.Stages.{IsLegalStage, takes, same_documen
 use Rattle.cabinet_text_grammar.proofs.Stages as stages
 use Rattle.cabinet_text_grammar.proofs.LegalStages.{allowed}
 use Rattle.cabinet_text_grammar.proofs.Start.{HasNoWholes, from_start}
-use Rattle.cabinet_text_grammar.proofs.Spelled.{AreItems, AreItems-reading, AreItems-document, HasNoNewline-item, HaveNoNewline-items, IsUtf8-item, same_items, GoesOn}
+use Rattle.cabinet_text_grammar.proofs.Spelled.{AreItems, AreItems-reading, AreItems-document, HaveNoNewline-items, IsUtf8-item, same_items}
 use Rattle.cabinet_text_grammar.proofs.Spelled as lines
 
 pub admitted_item : (table : List Tree) (around : ℕ) (i : Item) → AdmitsHead table around i → IsItem i

@@ -8,7 +8,7 @@ use Rattle.cabinet_text_grammar.specs.Due.{Due, the_start, a_head, a_key, nothin
 use Rattle.cabinet_text_grammar.specs.Tree.{Tree}
 use Rattle.cabinet_text_grammar.specs.Reading.{Reading, due_at, reading, read}
 use Rattle.cabinet_text_grammar.specs.Spelling.{escaped, spelled}
-use Rattle.cabinet_text_grammar.specs.Fault.{Piece, HasBadText, HasBadEscape, HasCount, IsHead, IsUnknownHead, HasBadNumber, bad_number, bad_count, HasUnknownWhole, HasBadWholes, HasHeadCause, HasDueCause, HasCause, rank, IsFirstCause}
+use Rattle.cabinet_text_grammar.specs.Fault.{Piece, HasBadText, HasBadEscape, HasCount, IsHead, HasBadNumber, bad_number, bad_count, HasBadWholes, HasDueCause, HasCause, rank, IsFirstCause}
 use Rattle.cabinet_text_grammar.specs.declared.cause.Cause.{Cause}
 use Rattle.cabinet_text_grammar.specs.declared.cause.Cause.TheVariants.{NotUtf8, NoNewline, EndTooEarly, KeyExpected, BadEscape, KeyOrder, KeyRepeated, UnknownHead, BadNumber, UnknownWhole, TooDeep, RepeatedWhole, WholeOrder, LineAfterEnd, OutOfMemory}
 use Rattle.cabinet_text_grammar.proofs.Escapes.{first_differs}

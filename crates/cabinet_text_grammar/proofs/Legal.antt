@@ -3,12 +3,12 @@ use Rattle.std.proofs.Common.{◌≡◌, ℕ, suc, ◌+◌, ◌<◌, ◌≤◌, 
 use Rattle.std.specs.Prelude.{max}
 use Rattle.std.proofs.lemmas.Bool.Decides.{eqb_tells}
 use Rattle.cabinet_text_grammar.specs.Tree.{Tree, leaf, shared, nothing, just, list, map, whole, Trees, no_trees, more_trees, Pairs, no_pairs, more_pairs, count, pair_count, depth, most_depth, pairs_depth, IsLegal, AreLegal, ArePairs}
-use Rattle.cabinet_text_grammar.specs.Wholes.{has, numbered, IsNumbered, AreNumbered, ArePairsNumbered, IsTable}
+use Rattle.cabinet_text_grammar.specs.Wholes.{numbered, IsNumbered, AreNumbered, ArePairsNumbered, IsTable}
 use Rattle.cabinet_text_grammar.specs.Keys.{MapKind, MayFollow}
 use Rattle.cabinet_text_grammar.specs.Item.{Item, leaf_item, shared_item, none_item, some_item, list_item, map_item, key_item, whole_item, wholes_item, whole_head}
 use Rattle.cabinet_text_grammar.specs.Frame.{Frame, in_option, in_list, at_key, at_value, keys_after, WantsNode, AreOpen}
 use Rattle.cabinet_text_grammar.specs.Due.{a_head, due_in, AdmitsHead, Admits}
-use Rattle.cabinet_text_grammar.specs.Machine.{State, going, complete, stuck, then_tree, then_pair, plug, plug_whole, step, run}
+use Rattle.cabinet_text_grammar.specs.Machine.{State, going, complete, stuck, then_tree, then_pair, plug, plug_whole, step}
 use Rattle.cabinet_text_grammar.proofs.Items.{count-then, pair_count-then}
 use Rattle.cabinet_text_grammar.proofs.Tables.{below_numbered, has_numbered, legal_numbered}
 

@@ -1,10 +1,10 @@
 -- The stage after one more item is legal where the item is allowed there, and only there.
 use Rattle.std.proofs.Common.{◌≡◌, ℕ, zero, suc, ◌+◌, ◌<◌, ◌≤◌, ◌^◌, List, [], ◌∷◌, length, sym, ap, refl, subst, arith}
 use Rattle.cabinet_text_grammar.specs.Tree.{Tree}
-use Rattle.cabinet_text_grammar.specs.Wholes.{IsNumbered, IsTable, wholes_of, IsDocument}
+use Rattle.cabinet_text_grammar.specs.Wholes.{IsNumbered, IsTable, wholes_of}
 use Rattle.cabinet_text_grammar.specs.Item.{Item, leaf_item, shared_item, none_item, some_item, list_item, map_item, key_item, whole_item, wholes_item, whole_head}
-use Rattle.cabinet_text_grammar.specs.Frame.{Frame, in_option, in_list, at_key, at_value, AreOpen}
-use Rattle.cabinet_text_grammar.specs.Due.{the_start, a_head, due_in, AdmitsHead, Admits}
+use Rattle.cabinet_text_grammar.specs.Frame.{Frame, in_option, in_list, at_key, at_value}
+use Rattle.cabinet_text_grammar.specs.Due.{the_start, due_in, AdmitsHead, Admits}
 use Rattle.cabinet_text_grammar.specs.Machine.{State, going, complete, stuck, step}
 use Rattle.cabinet_text_grammar.specs.Reading.{Reading, around, IsReading, due_of, due_at, Stage, reading, read, nowhere, onward, announce, take, IsNew, Suits}
 use Rattle.cabinet_text_grammar.proofs.Legal.{IsLegalState, legal-step, legal-before_step}

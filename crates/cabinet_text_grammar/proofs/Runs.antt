@@ -1,5 +1,5 @@
 -- The states that the items of a tree, and of a stack of open containers, lead to.
-use Rattle.std.proofs.Common.{◌≡◌, ◌≢◌, ℕ, ◌+◌, ◌<◌, ◌≤◌, true, false, List, [], ◌∷◌, ◌++◌, sym, ap, ◌∙◌, refl, arith, append_assoc, append-nil, inl, inr}
+use Rattle.std.proofs.Common.{◌≡◌, ℕ, ◌+◌, ◌<◌, ◌≤◌, true, false, List, [], ◌∷◌, ◌++◌, sym, ap, ◌∙◌, refl, arith, append_assoc, append-nil, inl, inr}
 use Rattle.std.specs.Prelude.{◌==◌}
 use Rattle.std.proofs.lemmas.Bool.Decides.{eqb_tells}
 use Rattle.cabinet_text_grammar.specs.Keys.{MapKind}
@@ -7,7 +7,7 @@ use Rattle.cabinet_text_grammar.specs.Tree.{Tree, leaf, shared, nothing, just, l
 use Rattle.cabinet_text_grammar.specs.Wholes.{IsNumbered, AreNumbered, ArePairsNumbered}
 use Rattle.cabinet_text_grammar.specs.Item.{Item, some_item, list_item, map_item, key_item, items, items_of, items_of_pairs}
 use Rattle.cabinet_text_grammar.specs.Frame.{Frame, in_option, in_list, at_key, at_value, items_of_stack, AreOpen}
-use Rattle.cabinet_text_grammar.specs.Machine.{State, going, complete, stuck, then_tree, then_pair, plug, plug_whole, settle, settle_pairs, run}
+use Rattle.cabinet_text_grammar.specs.Machine.{going, then_tree, then_pair, plug, plug_whole, settle, settle_pairs, run}
 use Rattle.cabinet_text_grammar.proofs.Items.{count-then, pair_count-then}
 use Rattle.cabinet_text_grammar.proofs.Tables.{numbered_back}
 

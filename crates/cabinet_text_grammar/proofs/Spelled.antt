@@ -3,7 +3,7 @@ use Rattle.std.proofs.Common.{◌≡◌, ℕ, zero, suc, ◌+◌, ◌<◌, ◌^�
 use Rattle.std.specs.Fmt.{decimal, signed_decimal}
 use Rattle.std.proofs.lemmas.Fmt.{IsAscii-decimal, IsAscii-signed}
 use Rattle.std.proofs.lemmas.Str.{IsUtf8-append, IsUtf8-from_ascii}
-use Rattle.cabinet_text_grammar.specs.Tree.{Leaf, truth, number, text, IsLeaf, Tree, leaf, shared, nothing, just, list, whole, Trees, no_trees, more_trees, Pairs, no_pairs, more_pairs, count, pair_count, IsLegal, AreLegal, ArePairs}
+use Rattle.cabinet_text_grammar.specs.Tree.{Leaf, truth, number, text, IsLeaf, Tree, leaf, shared, nothing, just, list, whole, Trees, no_trees, more_trees, Pairs, no_pairs, more_pairs, IsLegal, AreLegal, ArePairs}
 use Rattle.cabinet_text_grammar.specs.Tree as tree
 use Rattle.cabinet_text_grammar.specs.Wholes.{IsNumbered, AreNumbered, ArePairsNumbered, IsTable, wholes_of, IsDocument}
 use Rattle.cabinet_text_grammar.specs.Reading.{Reading, around, items_of_reading, IsReading}

@@ -1,9 +1,9 @@
 -- The stages that the items of a document lead to.
-use Rattle.std.proofs.Common.{◌≡◌, ◌≢◌, ℕ, zero, suc, ◌+◌, List, [], ◌∷◌, ◌++◌, length, sym, ap, ◌∙◌, refl, subst, arith, append_assoc, append-nil}
+use Rattle.std.proofs.Common.{◌≡◌, ◌≢◌, ℕ, zero, suc, ◌+◌, List, [], ◌∷◌, ◌++◌, length, sym, ap, ◌∙◌, refl, subst, arith}
 use Rattle.cabinet_text_grammar.specs.Tree.{Tree, nothing}
-use Rattle.cabinet_text_grammar.specs.Wholes.{IsNumbered, IsTable, wholes_of, IsDocument}
+use Rattle.cabinet_text_grammar.specs.Wholes.{IsNumbered, wholes_of, IsDocument}
 use Rattle.cabinet_text_grammar.specs.Item.{Item, leaf_item, shared_item, none_item, some_item, list_item, map_item, key_item, whole_item, wholes_item, whole_head, items, items_of_table, header, document_items}
-use Rattle.cabinet_text_grammar.specs.Frame.{Frame, items_of_stack, AreOpen}
+use Rattle.cabinet_text_grammar.specs.Frame.{Frame, items_of_stack}
 use Rattle.cabinet_text_grammar.specs.Machine.{State, going, complete, stuck, step, run}
 use Rattle.cabinet_text_grammar.specs.Reading.{Reading, nothing_read, around, items_of_reading, IsReading, Stage, reading, read, nowhere, onward, take}
 use Rattle.cabinet_text_grammar.proofs.Items.{IsUnstuck}

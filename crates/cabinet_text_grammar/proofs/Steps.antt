@@ -1,5 +1,5 @@
 -- Texts whose first lines have been taken in.
-use Rattle.std.proofs.Common.{◌≡◌, ◌≢◌, ℕ, zero, suc, ◌+◌, ◌<◌, ◌≤◌, ◌^◌, List, [], ◌∷◌, ◌++◌, length, sym, ap, ◌∙◌, refl, subst, arith, append_assoc, append-nil, length-append}
+use Rattle.std.proofs.Common.{◌≡◌, ℕ, zero, suc, ◌+◌, ◌≤◌, List, [], ◌∷◌, ◌++◌, length, sym, ap, ◌∙◌, refl, subst, arith, append_assoc, append-nil, length-append}
 use Rattle.std.specs.Prelude.{slice_get}
 use Rattle.std.proofs.lemmas.List.{length-map, map-append}
 use Rattle.cabinet_text_grammar.specs.Tree.{Tree}
@@ -10,7 +10,7 @@ use Rattle.cabinet_text_grammar.specs.Spelling.{spelled, lines_of, ended, text_o
 use Rattle.cabinet_text_grammar.specs.Fault.{pieces_of, inside, after_a_document, IsFirstCause, FirstFault}
 use Rattle.cabinet_text_grammar.specs.declared.cause.Cause.{Cause}
 use Rattle.cabinet_text_grammar.specs.Machine.{State, going, complete, stuck, step, items_of_state}
-use Rattle.cabinet_text_grammar.specs.Reading.{Reading, nothing_read, around, items_of_reading, IsReading, Stage, reading, read, nowhere, onward, announce, take, Suits}
+use Rattle.cabinet_text_grammar.specs.Reading.{Reading, nothing_read, items_of_reading, IsReading, Stage, reading, read, onward, announce, take}
 use Rattle.cabinet_text_grammar.proofs.Items.{IsUnstuck, items-step}
 use Rattle.cabinet_text_grammar.proofs.Stages.{IsLegalStage, items_of_stage}
 use Rattle.cabinet_text_grammar.proofs.LegalStages.{IsOther, take-other, legal-take}

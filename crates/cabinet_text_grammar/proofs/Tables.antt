@@ -1,12 +1,12 @@
 -- Numbers of wholes in tables, and the items that tell them.
-use Rattle.std.proofs.Common.{◌≡◌, ◌≢◌, ℕ, suc, ◌+◌, ◌<◌, ◌≤◌, Bool, true, false, List, [], ◌∷◌, ◌++◌, length, Option, Some, None, sym, ap, ◌∙◌, refl, subst, inl, inr, arith}
+use Rattle.std.proofs.Common.{◌≡◌, ◌≢◌, ℕ, ◌+◌, ◌<◌, ◌≤◌, true, false, List, [], ◌∷◌, ◌++◌, length, Some, None, sym, ap, ◌∙◌, refl, subst, inl, inr, arith}
 use Rattle.std.specs.Prelude.{IsTrue, if◌then◌else◌, ◌==◌, ◌||◌}
 use Rattle.std.proofs.lemmas.Bool.{false≢true, cases_Bool, or_left, or_right}
 use Rattle.std.proofs.lemmas.Bool.Decides.{eqb_tells}
 use Rattle.cabinet_text_grammar.specs.Keys.{MapKind}
 use Rattle.cabinet_text_grammar.specs.Tree.{Tree, leaf, shared, nothing, just, list, map, whole, Trees, no_trees, more_trees, Pairs, no_pairs, more_pairs, count, pair_count, depth, most_depth, pairs_depth, IsLegal, AreLegal, ArePairs}
-use Rattle.cabinet_text_grammar.specs.Wholes.{same, has, number_in, numbered, with_tree, with_wholes, with_wholes_in, with_wholes_by, IsNumbered, AreNumbered, ArePairsNumbered, IsTable, wholes_of, IsDocument}
-use Rattle.cabinet_text_grammar.specs.Item.{Item, whole_item, key_item, list_item, map_item, some_item, items, items_of, items_of_pairs}
+use Rattle.cabinet_text_grammar.specs.Wholes.{has, number_in, numbered, with_tree, with_wholes, with_wholes_in, with_wholes_by, IsNumbered, AreNumbered, ArePairsNumbered, IsTable, wholes_of, IsDocument}
+use Rattle.cabinet_text_grammar.specs.Item.{whole_item, key_item, list_item, map_item, some_item, items, items_of, items_of_pairs}
 use Rattle.cabinet_text_grammar.proofs.Equal.{itself, same_tells}
 
 -- ---- numbers

@@ -1,13 +1,11 @@
 -- The texts of the trees of a table: a tree is in the table where its text is among them.
-use Rattle.std.proofs.Common.{◌≡◌, ◌≢◌, ℕ, ◌<◌, length, Bool, true, false, ◌||◌, List, [], ◌∷◌, sym, ap, ◌∙◌, refl, subst, inl, inr}
+use Rattle.std.proofs.Common.{◌≡◌, ◌<◌, length, Bool, true, false, ◌||◌, List, [], ◌∷◌, sym, ap, ◌∙◌, refl, inl, inr}
 use Rattle.std.specs.Prelude.{◌^◌}
 use Rattle.std.specs.List.{list_any}
 use Rattle.std.specs.Str.{bytes_eq}
 use Rattle.std.proofs.lemmas.Slice.Eq.{bytes_eq-Decides}
-use Rattle.std.proofs.lemmas.Bool.{true≢false}
 use Rattle.cabinet_text_grammar.specs.Tree.{Tree, IsLegal}
 use Rattle.cabinet_text_grammar.specs.Wholes.{same, has, IsNumbered, IsTable}
-use Rattle.cabinet_text_grammar.specs.Item.{items}
 use Rattle.cabinet_text_grammar.specs.Spelling.{lines_of, ended}
 use Rattle.cabinet_text_grammar.specs.Completing.{text_in, texts_of}
 use Rattle.cabinet_text_grammar.proofs.Equal.{same_tells}

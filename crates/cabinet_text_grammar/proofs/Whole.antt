@@ -7,7 +7,7 @@ use Rattle.cabinet_text_grammar.specs.Wholes.{wholes_of, IsDocument}
 use Rattle.cabinet_text_grammar.specs.Due.{Due, the_start, a_head, a_key, nothing_more}
 use Rattle.cabinet_text_grammar.specs.Reading.{Reading, nothing_read, due_at, Stage, reading, read, nowhere, take}
 use Rattle.cabinet_text_grammar.specs.Spelling.{text_of}
-use Rattle.cabinet_text_grammar.specs.Fault.{Piece, pieces_of, HasDueCause, HasCause, rank, IsFirstCause, FirstFault}
+use Rattle.cabinet_text_grammar.specs.Fault.{Piece, pieces_of, HasDueCause, rank, IsFirstCause, FirstFault}
 use Rattle.cabinet_text_grammar.specs.declared.cause.Cause.{Cause}
 use Rattle.cabinet_text_grammar.specs.declared.cause.Cause.TheVariants.{NotUtf8, NoNewline, EndTooEarly, LineAfterEnd, OutOfMemory}
 use Rattle.cabinet_text_grammar.proofs.Pieces.{HasNoNewline, ended_piece, first_piece, piece_open}

@@ -1,7 +1,7 @@
 -- Which line completes a tree, the wholes of the containers that are open before it, and the texts of trees.
 use Rattle.std.specs.Prelude.{◌≡◌, ℕ, suc, List, [], ◌∷◌}
 use Rattle.cabinet_text_grammar.specs.Frame.{Frame, in_option, in_list, at_key, at_value}
-use Rattle.cabinet_text_grammar.specs.Item.{Item, leaf_item, shared_item, none_item, some_item, list_item, map_item, key_item, whole_item, wholes_item, whole_head, items}
+use Rattle.cabinet_text_grammar.specs.Item.{Item, leaf_item, shared_item, none_item, list_item, map_item, whole_item, items}
 use Rattle.cabinet_text_grammar.specs.Spelling.{lines_of, ended}
 use Rattle.cabinet_text_grammar.specs.Tree.{Tree, count, pair_count}
 use Rattle.cabinet_text_grammar.specs.Wholes.{with_wholes_in, with_wholes_by}

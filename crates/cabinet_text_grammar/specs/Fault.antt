@@ -5,7 +5,7 @@ use Rattle.std.specs.Fmt.{decimal, signed_decimal}
 use Rattle.cabinet_text_grammar.specs.Keys.{MapKind, ordered, hashed, kept, MayFollow}
 use Rattle.cabinet_text_grammar.specs.Tree.{Tree}
 use Rattle.cabinet_text_grammar.specs.Wholes.{has, wholes_of, IsDocument}
-use Rattle.cabinet_text_grammar.specs.Item.{Item, key_item, whole_item, wholes_item, document_items}
+use Rattle.cabinet_text_grammar.specs.Item.{Item, key_item, whole_item, document_items}
 use Rattle.cabinet_text_grammar.specs.Due.{Due, the_start, a_head, a_key, nothing_more, AdmitsHead, Admits}
 use Rattle.cabinet_text_grammar.specs.Machine.{complete, step}
 use Rattle.cabinet_text_grammar.specs.Reading.{Reading, items_of_reading, IsReading, due_at, Stage, reading, read, nowhere}

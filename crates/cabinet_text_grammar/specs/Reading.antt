@@ -2,7 +2,7 @@
 use Rattle.std.specs.Prelude.{◌≡◌, ℕ, zero, suc, ◌+◌, ◌<◌, ◌^◌, false, List, [], ◌∷◌, ◌++◌, length}
 use Rattle.cabinet_text_grammar.specs.Tree.{Tree}
 use Rattle.cabinet_text_grammar.specs.Wholes.{has, wholes_of, IsTable}
-use Rattle.cabinet_text_grammar.specs.Item.{Item, wholes_item, items, items_of_table, header}
+use Rattle.cabinet_text_grammar.specs.Item.{Item, wholes_item, items_of_table, header}
 use Rattle.cabinet_text_grammar.specs.Frame.{Frame, items_of_stack, AreOpen}
 use Rattle.cabinet_text_grammar.specs.Due.{Due, the_start, due_in}
 use Rattle.cabinet_text_grammar.specs.Machine.{State, going, complete, stuck, step}

@@ -1,19 +1,21 @@
 -- A text of which some lines were read.
-use Rattle.std.proofs.Common.{◌≡◌, ◌≢◌, ℕ, zero, suc, ◌+◌, ◌-◌, ◌<◌, ◌≤◌, ◌^◌, List, [], ◌∷◌, ◌++◌, length, take, drop, true, Result, Ok, Err, is_ok, IfOk, codes, sym, ap, ◌∙◌, refl, inr, subst, arith, append_assoc, length-append}
+use Rattle.std.proofs.Common.{◌≡◌, ◌≢◌, ℕ, zero, suc, ◌+◌, ◌-◌, ◌<◌, ◌≤◌, ◌^◌, List, [], ◌∷◌, ◌++◌, length, take, drop, true, Result, Ok, Err, is_ok, IfOk, IfErr, codes, sym, ap, ◌∙◌, refl, inr, subst, arith, append_assoc, length-append}
 use Rattle.std.proofs.Math.Seq.{take-append_seam, drop-append_seam}
 use Rattle.std.proofs.lemmas.List.{map-append}
 use Rattle.std.proofs.lemmas.Bool.{false≢true}
 use Rattle.std.specs.Prelude.{slice_get}
+use Rattle.std.specs.Result.{result_and}
 use Rattle.cabinet_text_grammar.specs.Completing.{EndsAlone, text_in}
 use Rattle.cabinet_text_grammar.specs.Due.{due_in, AdmitsHead, Admits}
 use Rattle.cabinet_text_grammar.specs.Fault.{pieces_of, HasDueCause, HeadTakesMemory, rank, IsFirstCause, FirstFault}
 use Rattle.cabinet_text_grammar.specs.Frame.{Frame, in_option, in_list, at_key, at_value, items_of_stack}
-use Rattle.cabinet_text_grammar.specs.Item.{Item, leaf_item, shared_item, none_item, some_item, list_item, map_item, key_item, whole_item, wholes_item, whole_head, header, items_of_table}
+use Rattle.cabinet_text_grammar.specs.Item.{Item, leaf_item, shared_item, none_item, some_item, list_item, map_item, key_item, whole_item, wholes_item, whole_head, header, items, items_of_table, document_items}
 use Rattle.cabinet_text_grammar.specs.Machine.{State, going, complete, stuck, step}
 use Rattle.cabinet_text_grammar.specs.Memory.{TakesMemory}
 use Rattle.cabinet_text_grammar.specs.Reading as grammar
 use Rattle.cabinet_text_grammar.specs.Reading.{Reading, nothing_read, items_of_reading, due_of, due_at, Stage, reading, onward}
-use Rattle.cabinet_text_grammar.specs.Spelling.{spelled, lines_of, ended}
+use Rattle.cabinet_text_grammar.specs.Spelling.{spelled, lines_of, ended, text_of}
+use Rattle.cabinet_text_grammar.specs.Wholes.{wholes_of, IsDocument}
 use Rattle.cabinet_text_grammar.specs.Steps.{TakesLine}
 use Rattle.cabinet_text_grammar.specs.Tree.{Tree, IsLegal, depth}
 use Rattle.cabinet_text_grammar.specs.Tree as tree
@@ -124,6 +126,11 @@ numbered text rest (suc n) line fits none some one two =
       parts = some (omega arith) ∙ sym (append_assoc (spelled (wholes_item (suc n))) (10 ∷ []) rest) ∙ ap (λ is. ended (lines_of is) ++ rest) (sym first);
       counted = omega (arith, two (omega arith), ap length first);
     }
+
+-- the lines after that of the number of wholes are no longer than the text
+pub begun_within : {P : Type 0} (text rest : List ℕ) (count : ℕ) → (count ≡ 0 → (rest ≡ text) × P) → (0 < count → text ≡ spelled (wholes_item count) ++ 10 ∷ rest) → length rest ≤ length text
+begun_within text rest zero none some = omega (arith, ap length (none refl).0)
+begun_within text rest (suc n) none some = omega (arith, ap length (some (omega arith)), length-append (spelled (wholes_item (suc n))) (10 ∷ rest))
 
 pub after_number :
     (text rest : List ℕ) (count line left : ℕ) (w : Wholes)
@@ -252,3 +259,34 @@ module _ {text rest : List ℕ} {w : Wholes} {fs : List Frame} {begin line : ℕ
         let front = front_of v.lacking (table_in v) in
         let parts : text ≡ front ++ after = has.parts ∙ apart (reading_of v []) after in
         record { has_read = has; known = known; begins = omega (arith, counted, ap length parts, length-append front after); started = λ none. absurd (not_first text after _ line some_line has none); root = λ u is. cc }
+
+-- ---- the end of a document
+
+-- the lines up to `rest` are the text of the document with this root, and the next line has this number
+pub record IsRoot (text : List ℕ) (table : List Tree) (t : Tree) (rest : List ℕ) (line : ℕ) : Type 0 where
+  pub document : IsDocument t
+  pub wholes : wholes_of t ≡ table
+  pub line_is : line ≡ length (document_items t) + 1
+  pub parts : text ≡ text_of t ++ rest
+
+root_of : (text : List ℕ) (table : List Tree) (t : Tree) (rest : List ℕ) (line : ℕ) → HasRead text (grammar.read table t) rest line → IsRoot text table t rest line
+root_of text table t rest line has =
+    let same = sym has.legal.1 in
+    record {
+      document = has.legal.0;
+      wholes = has.legal.1;
+      line_is = subst (λ ws. line ≡ length (header (length ws) ++ (items_of_table ws ++ items ws t)) + 1) same has.counted;
+      parts = subst (λ ws. text ≡ ended (lines_of (header (length ws) ++ (items_of_table ws ++ items ws t))) ++ rest) same has.parts;
+    }
+
+pub root_read : {text rest : List ℕ} {w : Wholes} {begin line : ℕ} (t : Tree) → IsReadTo text w (complete t) begin rest line → IsRoot text (table_in w) t rest line
+root_read {text} {rest} {w} {begin} {line} t h = root_of text (table_in w) t rest line (subst (λ n. HasRead text (grammar.completed n (table_in w) t) rest line) (h.root t refl) h.has_read)
+
+-- what holds of the first of two results, and of both
+pub and_ok : {A B E : Type 0} (r : Result A E) (b : B) (P : B → Type 0) (Q : Type 0) → IfOk r (λ _. Q) → (Q → P b) → IfOk (result_and r (Ok b)) P
+and_ok (Ok x) b P Q h f = f h
+and_ok (Err e) b P Q h f = tt
+
+pub and_err : {A B E : Type 0} (r : Result A E) (b : B) (P Q R : E → Type 0) → IfErr r Q → IfErr r R → ((e : E) → Q e → R e → P e) → IfErr (result_and r (Ok b)) P
+and_err (Ok x) b P Q R h k f = tt
+and_err (Err e) b P Q R h k f = f e h k

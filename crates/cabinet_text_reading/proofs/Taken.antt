@@ -1,5 +1,6 @@
 -- One more item that the code takes in.
-use Rattle.std.proofs.Common.{◌≡◌, ◌≢◌, ℕ, ◌≤◌, List, [], ◌∷◌, sym, ap, ◌∙◌, refl, inl, inr, arith, Global, String}
+use Rattle.std.proofs.Common.{◌≡◌, ◌≢◌, ℕ, ◌≤◌, List, [], ◌∷◌, sym, ap, ◌∙◌, refl, inl, inr, arith, Global, String, Result, Ok, Err}
+use Rattle.std.specs.Result.{OnErr}
 use Rattle.std.proofs.lemmas.Bool.Decides.{eqb_tells}
 use Rattle.cabinet_text_grammar.specs.Frame as spec
 use Rattle.cabinet_text_grammar.specs.Due.{AdmitsHead}
@@ -47,3 +48,13 @@ takes_inside few many (key_item k) more takes = tt
 takes_inside few many (whole_item n) more takes = omega (arith, takes, more)
 takes_inside few many (wholes_item n) more takes = absurd takes
 takes_inside few many whole_head more takes = absurd takes
+
+-- nothing is asked of an error
+pub on_err_all : {T E : Type 0} (r : Result T E) → OnErr r (Unit {0})
+on_err_all (Ok x) = tt
+on_err_all (Err e) = tt
+
+-- what holds in any case holds of an error
+pub on_err_given : {T E P : Type 0} (r : Result T E) → P → OnErr r P
+on_err_given (Ok x) p = tt
+on_err_given (Err e) p = p

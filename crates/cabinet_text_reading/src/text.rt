@@ -14,13 +14,13 @@ ghost use Rattle.cabinet_text_nodes.specs.View.{node_tree, item_of};
 ghost use Rattle.cabinet_text_reading.specs.View.{stack_of, inside_map, open_at, state_of};
 ghost use Rattle.cabinet_text_reading.specs.Causes.{IsFirstOf};
 ghost use Rattle.cabinet_text_reading.specs.Heads.{IsTextItem};
-ghost use Rattle.cabinet_text_reading.specs.Wholes.{table_in, reading_of, number_of, IsAtLine};
+ghost use Rattle.cabinet_text_reading.specs.Wholes.{table_in, reading_of, number_of, AreKnown, IsAtLine};
 
 use crate::completed::check_tree;
 use crate::head::read_head;
 use crate::line::{Lines, read_key_argument};
 use crate::stack::{Due, Frame, Next, OpenMap, all_lack_one, completes, take_head, take_key};
-use crate::wholes::Wholes;
+use crate::wholes::{Wholes, some_nodes};
 use cabinet_text_bytes::{after_prefix, read_count};
 use cabinet_text_grammar::Cause;
 use cabinet_text_nodes::{Document, Head, Node, SharedTexts};
@@ -193,6 +193,19 @@ fn read_header(text: &[u8]) -> Result<(u64, Lines<'_>), TextRefusal>
     }
 }
 
+/// Returns the fault of what is left after a document, if anything is left. `line` is the number of the first line that is.
+fn check_end(rest: Lines<'_>, line: u64) -> Result<(), TextRefusal>
+    ensures end { IfOk result (λ _. rest.entry ≡ []) }
+    ensures line { IfErr result (λ refusal. refusal.line ≡ line) }
+    ensures fault { IfErr result (λ refusal. IsFirstOf (HasDueCause nothing_more
+        (slice_get (pieces_of rest.entry) 0)) refusal.cause) }
+{
+    match rest.fault_after() {
+        None => Ok(()),
+        Some(cause) => Err(TextRefusal { line, cause }),
+    }
+}
+
 /// Returns the document with this root, if there is nothing after its text. `line` is the number of the line after the
 /// text.
 fn end_document(
@@ -209,14 +222,8 @@ fn end_document(
     ensures fault { IfErr result (λ refusal. FirstFault
         (text_of (node_tree (table_in wholes.entry) root) ++ rest.entry) refusal.line refusal.cause) }
 {
-    if let Some(cause) = rest.fault_after() {
-        return Err(TextRefusal { line, cause });
-    }
-    let entries = match wholes.entries.len() {
-        0 => None,
-        _ => Some(wholes.entries),
-    };
-    Ok(Document::of_parts(entries, root))
+    let document = Document::of_parts(some_nodes(wholes.entries), root);
+    check_end(rest, line).and(Ok(document))
 }
 
 /// Returns the bytes of a text from `begin` up to `end`.
@@ -228,27 +235,40 @@ fn part(text: &[u8], begin: usize, end: usize) -> &[u8]
     &text[begin..end]
 }
 
-/// Returns the document with this text. The time and the memory are in proportion to the text, except for the
-/// comparisons of keys, of shared texts and of wholes. No memory is reserved by a count in the text.
-pub fn read_text(alloc: Global, text: &[u8]) -> Result<Document, TextRefusal>
-    ensures document { IfOk result (λ document. text.now ≡ text_of document) }
+/// Reads the trees of the wholes, which are added to `wholes`, and that of the root from `rest`, the lines after that of
+/// the number of wholes. Returns the root, and the rest after its lines with the number of the next one.
+fn read_trees<'a>(
+    alloc: Global,
+    text: &'a [u8],
+    count: u64,
+    rest: Lines<'a>,
+    wholes: &mut Wholes<'a>,
+    texts: &mut SharedTexts,
+    stack: &mut Vec<Frame<'a>>,
+) -> Result<(Node, Lines<'a>, u64), TextRefusal>
+    requires none { count ≡ 0 → (rest ≡ text.now) × ((more : List ℕ) → text.now ≢ codes "wholes " ++ more) }
+    requires some { 0 < count → text.now ≡ spelled (wholes_item count) ++ 10 ∷ rest }
+    requires reading { reading_of wholes.old [] ≡ record { lacking = count; table = []; stack = [] } }
+    requires known { AreKnown wholes.old }
+    requires stack { stack.old.items ≡ [] }
+    ensures document { IfOk result (λ read. IsDocument (node_tree (table_in wholes.new) read.0)) }
+    ensures wholes { IfOk result (λ read. wholes_of (node_tree (table_in wholes.new) read.0) ≡ table_in wholes.new) }
+    ensures line { IfOk result (λ read. read.2 ≡ length (document_items (node_tree (table_in wholes.new) read.0)) + 1) }
+    ensures text { IfOk result (λ read. text.now ≡ text_of (node_tree (table_in wholes.new) read.0) ++ read.1) }
     ensures fault { IfErr result (λ refusal. FirstFault text.now refusal.line refusal.cause) }
 {
-    let (count, mut rest) = read_header(text)?;
-    let mut wholes = Wholes::new(alloc, count);
-    let mut stack = Vec::new(alloc);
-    let mut texts = SharedTexts::new(alloc);
+    let mut rest = rest;
     let mut next = Next::Due(Due::Head);
     let mut begin = text.len() - rest.len();
     let mut line: u64 = if count > 0 { 2 } else { 1 };
     loop {
         let due = match next {
             Next::Due(due) => due,
-            Next::Done(root) => return end_document(wholes, root, rest, line),
+            Next::Done(root) => return Ok((root, rest, line)),
         };
         let (bytes, after) = next_line(rest, line)?;
         let lines = part(text, begin, text.len() - after.len());
-        let taken = match take_line(alloc, bytes, lines, due, &wholes, &mut texts, &mut stack) {
+        let taken = match take_line(alloc, bytes, lines, due, wholes, texts, stack) {
             Ok(taken) => taken,
             Err(cause) => return Err(TextRefusal { line, cause }),
         };
@@ -267,5 +287,29 @@ pub fn read_text(alloc: Global, text: &[u8]) -> Result<Document, TextRefusal>
         };
         rest = after;
         line += 1;
+    }
+}
+
+/// Returns the document with this text. The time and the memory are in proportion to the text, except for the
+/// comparisons of keys, of shared texts and of wholes. No memory is reserved by a count in the text.
+pub fn read_text(alloc: Global, text: &[u8]) -> Result<Document, TextRefusal>
+    ensures document { IfOk result (λ document. text.now ≡ text_of document) }
+    ensures fault { IfErr result (λ refusal. FirstFault text.now refusal.line refusal.cause) }
+{
+    let (count, rest) = read_header(text)?;
+    let mut wholes = Wholes::new(alloc, count);
+    let mut texts = SharedTexts::new(alloc);
+    let mut stack = Vec::new(alloc);
+    match read_trees(
+        alloc,
+        text,
+        count,
+        rest,
+        &mut wholes,
+        &mut texts,
+        &mut stack,
+    ) {
+        Ok((root, rest, line)) => end_document(wholes, root, rest, line),
+        Err(refusal) => Err(refusal),
     }
 }

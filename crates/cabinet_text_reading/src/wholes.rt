@@ -4,7 +4,7 @@ ghost use Rattle.cabinet_text_grammar.specs.Completing.{text_in};
 ghost use Rattle.cabinet_text_grammar.specs.Reading.{around};
 ghost use Rattle.cabinet_text_grammar.specs.Tree.{Tree, depth, IsLegal};
 ghost use Rattle.cabinet_text_grammar.specs.Wholes.{has, IsNumbered, IsTable};
-ghost use Rattle.cabinet_text_nodes.specs.View.{node_tree};
+ghost use Rattle.cabinet_text_nodes.specs.View.{node_tree, entries_of};
 ghost use Rattle.cabinet_text_reading.specs.Wholes.{table_in, reading_of, AreKnown};
 
 use cabinet_text_nodes::{Node, depth_of};
@@ -72,10 +72,17 @@ impl<'a> Wholes<'a> {
             → IfOk result (λ _. AreKnown self.new) }
     {
         let depth = depth_of(&tree, self.depths.as_slice());
-        self.texts.insert(lines)?;
-        self.depths.push(depth)?;
         self.entries.push(tree)?;
+        self.depths.push(depth)?;
+        self.texts.insert(lines)?;
         self.lacking -= 1;
         Ok(())
     }
+}
+
+/// Returns the nodes of wholes, or `None` if there are none.
+pub(crate) fn some_nodes(nodes: Vec<Node>) -> Option<Vec<Node>>
+    ensures { entries_of result ≡ nodes.items }
+{
+    if nodes.is_empty() { None } else { Some(nodes) }
 }

@@ -102,37 +102,21 @@ fn check_list<C: ArchiveContext>(
             ensures moves { Moves (C.kept c.old) result (C.kept c.new) }
             ensures exact { (names : Names) → KnowsList names
                 → Checks names bytes.entry.now (at p (box (sized list_shape))) (C.kept c.old) result (C.kept c.new) }
-        { check_boxed(bytes, p, c, room) },
-    )
-}
-
-/// Checks the box of a list at `pos`. The regions that it claims end at `room` or before.
-#[cycle(list)]
-fn check_boxed<C: ArchiveContext>(
-    bytes: &[u8],
-    pos: usize,
-    context: &mut C,
-    room: usize,
-) -> Result<(), Error>
-    requires fits { pos + 4 ≤ length bytes.now }
-    requires range { IsWithin (C.kept context.old) (length bytes.now) }
-    requires within { (C.kept context.old).end ≤ room }
-    ensures moves { Moves (C.kept context.old) result (C.kept context.new) }
-    ensures exact { (names : Names) → KnowsList names
-        → Checks names bytes.now (at pos (box (sized list_shape))) (C.kept context.old) result (C.kept context.new) }
-{
-    check_box_each::<ArchivedList, C, _>(
-        bytes,
-        pos,
-        context,
-        |c: &mut C, p: usize| -> Result<(), Error>
-            requires fits { p + 8 ≤ length bytes.now }
-            requires range { IsWithin (C.kept c.old) (length bytes.now) }
-            requires within { (C.kept c.old).end + 8 ≤ room }
-            ensures moves { Moves (C.kept c.old) result (C.kept c.new) }
-            ensures exact { (names : Names) → KnowsList names
-                → Checks names bytes.entry.now (at p list_shape) (C.kept c.old) result (C.kept c.new) }
-        { check_list(bytes, p, c, room - 8) },
+        {
+            check_box_each::<ArchivedList, C, _>(
+                bytes,
+                p,
+                c,
+                |d: &mut C, q: usize| -> Result<(), Error>
+                    requires fits { q + 8 ≤ length bytes.now }
+                    requires range { IsWithin (C.kept d.old) (length bytes.now) }
+                    requires within { (C.kept d.old).end + 8 ≤ room }
+                    ensures moves { Moves (C.kept d.old) result (C.kept d.new) }
+                    ensures exact { (names : Names) → KnowsList names
+                        → Checks names bytes.entry.now (at q list_shape) (C.kept d.old) result (C.kept d.new) }
+                { check_list(bytes, q, d, room - 8) },
+            )
+        },
     )
 }
 
@@ -255,9 +239,31 @@ fn deserialize_list(
                 (box (sized list_shape)) KnowsList bytes.entry.now p (λ q. q.0) result }
         {
             let _ = &pos;
-            match deserialize_boxed(bytes, p, alloc, d) {
+            let boxed = Ref::<ArchivedBox<ArchivedList>> {
+                bytes,
+                pos: p,
+                of: PhantomData,
+            };
+            let read = deserialize_box_each::<List, ArchivedList, (), _>(
+                boxed,
+                alloc,
+                d,
+                |e: &mut (), q: usize| -> Result<(List, PhantomData<ArchivedList>), Error>
+                    requires ends { q + 8 ≤ p }
+                    requires there { HasValue list_shape KnowsList bytes.now q }
+                    ensures { DeserializesBy (reads_as list_spelling) list_shape KnowsList
+                        bytes.entry.now q (λ r. r.0) result }
+                {
+                    let _ = &p;
+                    match deserialize_list(bytes, q, alloc, e) {
+                        Ok(list) => Ok((list, PhantomData)),
+                        Err(error) => Err(error),
+                    }
+                },
+            );
+            match read {
                 Ok(boxed) => Ok((boxed, PhantomData)),
-                Err(e) => Err(e),
+                Err(error) => Err(error),
             }
         },
     );
@@ -265,42 +271,6 @@ fn deserialize_list(
         Ok(next) => Ok(List { next }),
         Err(e) => Err(e),
     }
-}
-
-/// Reads the box of a list at `pos` back.
-#[cycle(read_list)]
-fn deserialize_boxed(
-    bytes: &[u8],
-    pos: usize,
-    alloc: Global,
-    deserializer: &mut (),
-) -> Result<Box<List>, Error>
-    requires { HasValue (box (sized list_shape)) KnowsList bytes.now pos }
-    ensures { Deserializes (reads_in (λ b. b.value) (reads_as list_spelling))
-        (box (sized list_shape)) KnowsList bytes.now pos result }
-{
-    let this = Ref::<ArchivedBox<ArchivedList>> {
-        bytes,
-        pos,
-        of: PhantomData,
-    };
-    deserialize_box_each::<List, ArchivedList, (), _>(
-        this,
-        alloc,
-        deserializer,
-        |d: &mut (), p: usize| -> Result<(List, PhantomData<ArchivedList>), Error>
-            requires ends { p + 8 ≤ pos }
-            requires there { HasValue list_shape KnowsList bytes.now p }
-            ensures { DeserializesBy (reads_as list_spelling) list_shape KnowsList bytes.entry.now p
-                (λ q. q.0) result }
-        {
-            let _ = &pos;
-            match deserialize_list(bytes, p, alloc, d) {
-                Ok(list) => Ok((list, PhantomData)),
-                Err(e) => Err(e),
-            }
-        },
-    )
 }
 
 impl ReadBack<List> for ArchivedList {

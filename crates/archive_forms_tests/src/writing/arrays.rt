@@ -1,12 +1,15 @@
 //! Tests of arrays that are archived.
 use super::is_archived_as;
-use std::test::Fail;
 
 #[test]
-fn an_array_of_boxes(rt: HostRuntime) -> Result<(), Fail> {
+fn an_array_of_boxes(rt: HostRuntime) {
     let alloc = rt.alloc();
-    let boxes = [Box::new(alloc, 7u32)?, Box::new(alloc, 8u32)?];
-    let bytes = *b"\x07\0\0\0\x08\0\0\0\xf8\xff\xff\xff\xf8\xff\xff\xff";
-    assert!(rt; is_archived_as(alloc, &boxes, &bytes));
-    Ok(())
+    let Ok(seven) = Box::new(alloc, 7u32) else {
+        panic!(rt; "no memory");
+    };
+    let Ok(eight) = Box::new(alloc, 8u32) else {
+        panic!(rt; "no memory");
+    };
+    let bytes = b"\x07\0\0\0\x08\0\0\0\xf8\xff\xff\xff\xf8\xff\xff\xff";
+    assert!(rt; is_archived_as(alloc, &[seven, eight], bytes));
 }

@@ -9,7 +9,6 @@ use archive_forms_borrowed::{
 use archive_forms_values::VecResolver;
 use archive_shape::{Error, Place};
 use std::alloc::Global;
-use std::test::Fail;
 
 /// Returns whether writing numbers with the claimed number `len` returns `want` and writes `bytes`.
 fn written_with_claim(
@@ -39,27 +38,30 @@ fn vector_of_one(alloc: Global, number: u32) -> Result<[u8; 8], Error> {
     }
 }
 
+/// Returns whether writing two numbers as so many is refused, and writes nothing.
+fn is_refused_as(alloc: Global, numbers: Vec<u16>, expected: usize) -> bool {
+    let want = Err(Error::IteratorLengthMismatch {
+        expected,
+        actual: 2,
+    });
+    written_with_claim(alloc, numbers, expected, want, b"")
+}
+
 #[test]
-fn two_items_are_written_as_those_of_a_vector_if_two_are_claimed(
-    rt: HostRuntime,
-) -> Result<(), Fail> {
+fn two_items_are_written_as_those_of_a_vector_if_two_are_claimed(rt: HostRuntime) {
     let alloc = rt.alloc();
     for expected in [0, 1, 2, 3] {
-        let numbers = vec![in alloc; 7u16, 258]?;
-        let (want, bytes) = if expected == 2 {
-            (Ok(VecResolver { pos: 0 }), b"\x07\0\x02\x01".as_slice())
-        } else {
-            (
-                Err(Error::IteratorLengthMismatch {
-                    expected,
-                    actual: 2,
-                }),
-                b"".as_slice(),
-            )
+        let Ok(numbers) = vec![in alloc; 7u16, 258] else {
+            panic!(rt; "no memory");
         };
-        assert!(rt; written_with_claim(alloc, numbers, expected, want, bytes));
+        let is_written = if expected == 2 {
+            let want = Ok(VecResolver { pos: 0 });
+            written_with_claim(alloc, numbers, 2, want, b"\x07\0\x02\x01")
+        } else {
+            is_refused_as(alloc, numbers, expected)
+        };
+        assert!(rt; is_written);
     }
-    Ok(())
 }
 
 #[test]
@@ -69,20 +71,22 @@ fn a_slice_is_resolved_as_a_vector(rt: HostRuntime) {
 }
 
 #[test]
-fn entries_of_numbers_and_of_a_text(rt: HostRuntime) -> Result<(), Fail> {
+fn entries_of_numbers(rt: HostRuntime) {
     let alloc = rt.alloc();
-    let entry = EntryAdapter::new(&7u8, &258u32);
-    assert!(rt; is_archived_as(alloc, &entry, b"\x07\0\0\0\x02\x01\0\0"));
-    let entry = EntryAdapter::new(&258u32, &7u8);
-    assert!(rt; is_archived_as(alloc, &entry, b"\x02\x01\0\0\x07\0\0\0"));
-    let key = String::from_str(alloc, "123456789")?;
-    let entry = EntryAdapter::new(&key, &5u16);
+    let low = EntryAdapter::new(&7u8, &258u32);
+    let high = EntryAdapter::new(&258u32, &7u8);
     assert!(rt;
-        is_archived_as(
-            alloc,
-            &entry,
-            b"123456789\0\0\0\x89\0\0\0\xf4\xff\xff\xff\x05\0\0\0"
-        )
+        is_archived_as(alloc, &low, b"\x07\0\0\0\x02\x01\0\0")
+            && is_archived_as(alloc, &high, b"\x02\x01\0\0\x07\0\0\0")
     );
-    Ok(())
+}
+
+#[test]
+fn an_entry_of_a_text(rt: HostRuntime) {
+    let Ok(key) = String::from_str(rt.alloc(), "123456789") else {
+        panic!(rt; "no memory");
+    };
+    let entry = EntryAdapter::new(&key, &5u16);
+    let bytes = b"123456789\0\0\0\x89\0\0\0\xf4\xff\xff\xff\x05\0\0\0";
+    assert!(rt; is_archived_as(rt.alloc(), &entry, bytes));
 }

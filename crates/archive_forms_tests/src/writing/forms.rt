@@ -1,6 +1,5 @@
 //! Tests of results, and of a vector of options of boxes, that are archived.
 use super::is_archived_as;
-use std::test::Fail;
 
 #[test]
 fn results_of_different_sizes(rt: HostRuntime) {
@@ -14,11 +13,14 @@ fn results_of_different_sizes(rt: HostRuntime) {
 }
 
 #[test]
-fn a_vector_of_options_of_boxes(rt: HostRuntime) -> Result<(), Fail> {
+fn a_vector_of_options_of_boxes(rt: HostRuntime) {
     let alloc = rt.alloc();
-    let seven = Box::new(alloc, 7i32)?;
-    let list = vec![in alloc; Some(seven), None]?;
+    let Ok(seven) = Box::new(alloc, 7i32) else {
+        panic!(rt; "no memory");
+    };
+    let Ok(list) = vec![in alloc; Some(seven), None] else {
+        panic!(rt; "no memory");
+    };
     let bytes = *b"\x07\0\0\0\x01\0\0\0\xf8\xff\xff\xff\0\0\0\0\0\0\0\0\xf0\xff\xff\xff\x02\0\0\0";
     assert!(rt; is_archived_as(alloc, &list, &bytes));
-    Ok(())
 }

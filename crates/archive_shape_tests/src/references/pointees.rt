@@ -3,6 +3,7 @@
 use archive_shape::{
     ArchivePointee, ArchivedI64, ArchivedU32, ArchivedUsize, LayoutRaw, Ref, Slice, Str,
 };
+use archive_shape_layout::Pointee;
 
 #[test]
 fn pointees_have_layouts_and_numbers_of_elements(rt: HostRuntime) {
@@ -22,4 +23,14 @@ fn pointees_have_layouts_and_numbers_of_elements(rt: HostRuntime) {
             && Str::pointer_metadata(&length) == 300
             && ArchivedI64::pointer_metadata(&Ref::new(&bytes, 1)) == 1
     );
+}
+
+#[test]
+fn pointees_are_values_slices_or_texts(rt: HostRuntime) {
+    let value = <bool as ArchivePointee>::pointee(rt.alloc());
+    assert!(rt; matches!(value, Ok(Pointee::Sized(_))));
+    let slice = <Slice<bool> as ArchivePointee>::pointee(rt.alloc());
+    assert!(rt; matches!(slice, Ok(Pointee::Slice(_))));
+    let text = <Str as ArchivePointee>::pointee(rt.alloc());
+    assert!(rt; matches!(text, Ok(Pointee::Text)));
 }

@@ -4,7 +4,7 @@ ghost use Rattle.cabinet_text_bytes.specs.Words.{IsEscaped};
 ghost use Rattle.cabinet_text_grammar.specs.Due.{AdmitsHead, Admits};
 ghost use Rattle.cabinet_text_grammar.specs.Fault.{HasDueCause};
 ghost use Rattle.cabinet_text_grammar.specs.Frame.{AreOpen};
-ghost use Rattle.cabinet_text_grammar.specs.Item.{key_item, map_item};
+ghost use Rattle.cabinet_text_grammar.specs.Item.{key_item, some_item, list_item, map_item};
 ghost use Rattle.cabinet_text_grammar.specs.Memory.{TakesMemory};
 ghost use Rattle.cabinet_text_grammar.specs.Spelling.{escaped};
 ghost use Rattle.cabinet_text_grammar.specs.Tree.{Tree};
@@ -104,23 +104,41 @@ pub fn take_head<'a>(
         Head::Leaf(Leaf::Text(text)) => put_in(alloc, Node::Text(text), stack),
         Head::Shared(text) => put_in(alloc, Node::Shared(text), stack),
         Head::None => put_in(alloc, Node::Maybe(None), stack),
-        Head::Some => {
-            stack.push(Frame::Maybe)?;
-            Ok(Next::Due(Due::Head))
-        }
-        Head::List(count) => {
-            let nodes = Vec::new(alloc);
-            if count == 0 {
-                return put_in(alloc, Node::List(nodes), stack);
-            }
-            stack.push(Frame::List { count, nodes })?;
-            Ok(Next::Due(Due::Head))
-        }
+        Head::Some => open_option(stack),
+        Head::List(count) => open_list(alloc, count, stack),
         Head::Ordered(count) => open_map(alloc, count, Pairs::Ordered(BTreeMap::new(alloc)), stack),
         Head::Hashed(count) => open_map(alloc, count, Pairs::Hashed(BTreeMap::new(alloc)), stack),
         Head::Kept(count) => open_map(alloc, count, Pairs::Kept(KeptPairs::new(alloc)), stack),
         Head::Whole(number) => put_in(alloc, Node::Whole(number), stack),
     }
+}
+
+/// Opens an option that has a node.
+fn open_option<'a>(stack: &mut Vec<Frame<'a>>) -> Result<Next<'a>, AllocError>
+    ensures { (table : List Tree) → IfOk result (λ next. state_of table next stack.new.items
+        ≡ step table (stack_of table stack.old.items) some_item) }
+{
+    stack.push(Frame::Maybe)?;
+    Ok(Next::Due(Due::Head))
+}
+
+/// Opens a list of `count` elements.
+fn open_list<'a>(
+    alloc: Global,
+    count: u64,
+    stack: &mut Vec<Frame<'a>>,
+) -> Result<Next<'a>, AllocError>
+    ensures next { (table : List Tree) (around : ℕ) → AreOpen table around (stack_of table stack.old.items)
+        → IfOk result (λ next. state_of table next stack.new.items
+        ≡ step table (stack_of table stack.old.items) (list_item count)) }
+    ensures memory { OnErr result (TakesMemory (vec_len stack.old) (list_item count)) }
+{
+    let nodes = Vec::new(alloc);
+    if count == 0 {
+        return put_in(alloc, Node::List(nodes), stack);
+    }
+    stack.push(Frame::List { count, nodes })?;
+    Ok(Next::Due(Due::Head))
 }
 
 /// Opens a map of `count` pairs.

@@ -24,3 +24,8 @@ loop-at-preserved g c =
     let i = c.loop-at.invariant in
     let s = c.in-Some.ensures.visits g.row.E i.begun i.left i.has i.written in
     record { begun = i.begun; left = s.1; has = record { goes = s.4.0.goes; count = s.4.0.count }; written = s.4.1 }
+
+pub visit_next-requires-clause-has : goal.visit_next-requires-clause-has
+visit_next-requires-clause-has g c =
+    let i = c.loop-at.invariant in
+    (g.row.E, i.begun, i.left, i.has, i.written)

@@ -1,4 +1,4 @@
-use Rattle.std.proofs.Common.{◌∙◌, List, [], Option, arith, ap, refl, subst, inl, length}
+use Rattle.std.proofs.Common.{◌∙◌, ◌<◌, All, sym, List, [], Option, arith, ap, refl, subst, inl, length}
 use Rattle.archive_shape_writing.specs.Writing.{WriterMembers}
 use Rattle.archive_hash_probing.specs.ShapeCanonical.FirstFit.{fitted_from, present}
 use Rattle.archive_forms_writing.specs.Steps.{IsElement}
@@ -37,6 +37,24 @@ fit-requires-clause-room g c =
     let more = capacity_more (length c.args.items.now) c.args.load_factor.0 c.args.load_factor.1 (omega (arith, c.in-Ok.ensures.1, c.if-capacity-eq0.false)) in
     omega (arith, more, c.in-Ok.ensures.1, c.requires.even)
 
+pub returns-in-Err-fit : goal.returns-in-Err-fit
+returns-in-Err-fit g c = λ st at.
+    let w = g.A.ArchiveWith.spelling c.args.with.now in
+    let sh = g.A.Archived.Portable.shape in
+    let s : WriterMembers g.row.S.Denot = record { known = g.S.Registry.known; pos = g.S.Positional.pos; OBSERVABLE = g.S.Writer.OBSERVABLE; COUNTS = g.S.Writer.COUNTS; contents = g.S.Writer.contents; failures = g.S.Writer.failures; last_error = g.S.Writer.last_error } in
+    let load = c.args.load_factor in
+    let hashes = c.args.hashes.now in
+    let xs = c.args.items.now in
+    let old = c.args.serializer.now in
+    let spelled = written_spelling load sh w hashes in
+    stopped_before (of_data s) old (spelled.piece xs st) (spelled.piece_refused xs st) _ (inl c.in-Err-fit.ensures)
+
+pub place_items-requires-clause-even : goal.place_items-requires-clause-even
+place_items-requires-clause-even g c = ap length c.as_slice.ensures.value ∙ c.in-Ok-fit.ensures.2 ∙ c.requires.even
+
+pub place_items-requires-clause-within : goal.place_items-requires-clause-within
+place_items-requires-clause-within g c = subst (All (λ place. place < c.in-Ok.capacity)) (sym c.as_slice.ensures.value) c.in-Ok-fit.ensures.3
+
 pub returns-in-Err-place_items : goal.returns-in-Err-place_items
 returns-in-Err-place_items g c = λ st at.
     let w = g.A.ArchiveWith.spelling c.args.with.now in
@@ -48,6 +66,15 @@ returns-in-Err-place_items g c = λ st at.
     let old = c.args.serializer.now in
     let spelled = written_spelling load sh w hashes in
     stopped_before (of_data s) old (spelled.piece xs st) (spelled.piece_refused xs st) _ (inl c.in-Err-place_items.ensures)
+
+pub serialize_present_each-requires-clause-room : goal.serialize_present_each-requires-clause-room
+serialize_present_each-requires-clause-room g c = c.requires.room
+
+pub serialize_present_each-requires-clause-state : goal.serialize_present_each-requires-clause-state
+serialize_present_each-requires-clause-state g c = c.requires.state
+
+pub serialize_present_each-requires-clause-writes : goal.serialize_present_each-requires-clause-writes
+serialize_present_each-requires-clause-writes g c = c.requires.writes
 
 pub serialize_present_each-requires-clause-takes : goal.serialize_present_each-requires-clause-takes
 serialize_present_each-requires-clause-takes g c = λ x t el room state.

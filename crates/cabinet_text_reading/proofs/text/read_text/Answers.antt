@@ -1,91 +1,43 @@
-use Rattle.std.proofs.Common.{◌≡◌, ◌<◌, ◌^◌, rules, length, length-append, ◌∷◌, ap, sym, subst, arith}
+use Rattle.std.proofs.Common.{◌≡◌, IfOk, IfErr, sym, subst}
 use Rattle.std.proofs.lemmas.Result.{err_from_is_err_and}
-use Rattle.cabinet_text_grammar.specs.Reading.{due_at, reading}
-use Rattle.cabinet_text_grammar.specs.Fault.{IsFirstCause}
-use Rattle.cabinet_text_grammar.proofs.Completed.{something_due}
-use Rattle.cabinet_text_grammar.proofs.Steps.{few}
-use Rattle.cabinet_text_nodes.specs.View.{node_tree}
-use Rattle.cabinet_text_reading.specs.View.{open_at}
-use Rattle.cabinet_text_reading.specs.Wholes.{table_in, reading_of}
-use Rattle.cabinet_text_reading.proofs.ReadTo.{begins_before, at_line, early_fault, fault_here, memory_refused, line_taken, added_fits, added_lines, whole_added, ok_holds, after_number}
+use Rattle.cabinet_text_grammar.specs.Fault.{FirstFault}
+use Rattle.cabinet_text_grammar.specs.Spelling.{text_of}
 use Rattle.cabinet_text_reading.proofs.text.read_text.Goals as goal
-use Rattle.cabinet_text_reading.proofs.text.read_text.Goals.{then-count-gt0, else-count-gt0, in-Due-taken, in-Done-taken, in-Done-2+else-is_err}
 
 pub returns-in_err-count-clause-fault : goal.returns-in_err-count-clause-fault
 returns-in_err-count-clause-fault c =
     let p = err_from_is_err_and c.from_residual.result c.from_residual.ensures.1 in
     rw (p.1, p.2) c.in_err-count.ensures.fault
 
-pub loop-next-init : goal.loop-next-init
-loop-next-init c =
-    let line : (c.in_ok-count.count ≡ 0 → c.if-count-gt0.line ≡ 1) × (0 < c.in_ok-count.count → c.if-count-gt0.line ≡ 2) = elim c.if-count-gt0.branch [
-      | then-count-gt0 x ↦ (λ none. absurd (omega (arith, none, x.if-count-gt0.true)), λ some. x.line-is)
-      | else-count-gt0 x ↦ (λ none. x.line-is, λ some. absurd (omega (arith, some, x.if-count-gt0.false)))
-    ] in
-    let fits : c.in_ok-count.count < 2 ^ 64 = search rules in
-    rw c.new-stack.ensures.items
-    (after_number c.args.text.now c.in_ok-count.rest c.in_ok-count.count c.if-count-gt0.line c.len.result c.new-wholes.result fits c.in_ok-count.ensures.none c.in_ok-count.ensures.some line.0 line.1 c.len.ensures c.new-wholes.ensures.reading c.new-wholes.ensures.known)
+pub read_trees-requires-clause-none : goal.read_trees-requires-clause-none
+read_trees-requires-clause-none c = c.in_ok-count.ensures.none
 
-pub returns-in_err-bytes-clause-fault : goal.returns-in_err-bytes-clause-fault
-returns-in_err-bytes-clause-fault c =
-    let w = c.loop-next.wholes in
-    let r = reading_of w (open_at (table_in w) c.in-Due.due c.loop-next.stack.items) in
-    let here = rw c.in-Due.is at c.loop-next.invariant in
-    let p = err_from_is_err_and c.from_residual-in_err-bytes.result c.from_residual-in_err-bytes.ensures.1 in
-    rw (p.1, p.2, c.in_err-bytes.ensures.line) (early_fault here c.in_err-bytes.field-0.0.cause c.in_err-bytes.ensures.early (c.in_err-bytes.ensures.fault (due_at r) (something_due r)))
+pub read_trees-requires-clause-some : goal.read_trees-requires-clause-some
+read_trees-requires-clause-some c = c.in_ok-count.ensures.some
 
-pub part-lines-requires-clause-begin : goal.part-lines-requires-clause-begin
-part-lines-requires-clause-begin c =
-    let here = rw c.in-Due.is at c.loop-next.invariant in
-    let bytes = c.in_ok-bytes.bytes.now in
-    let after = c.in_ok-bytes.after in
-    omega (arith, begins_before here, c.len-in-loop-next.ensures, ap length c.in_ok-bytes.ensures.parts, length-append bytes (10 ∷ after))
+pub read_trees-requires-clause-reading : goal.read_trees-requires-clause-reading
+read_trees-requires-clause-reading c = c.new-wholes.ensures.reading
+
+pub read_trees-requires-clause-known : goal.read_trees-requires-clause-known
+read_trees-requires-clause-known c = c.new-wholes.ensures.known
+
+pub read_trees-requires-clause-stack : goal.read_trees-requires-clause-stack
+read_trees-requires-clause-stack c = c.new-stack.ensures.items
+
+pub end_document-requires-clause-document : goal.end_document-requires-clause-document
+end_document-requires-clause-document c = c.in-Ok.ensures.document
+
+pub end_document-requires-clause-wholes : goal.end_document-requires-clause-wholes
+end_document-requires-clause-wholes c = c.in-Ok.ensures.wholes
+
+pub end_document-requires-clause-line : goal.end_document-requires-clause-line
+end_document-requires-clause-line c = c.in-Ok.ensures.line
+
+pub returns-in-Ok-clause-document : goal.returns-in-Ok-clause-document
+returns-in-Ok-clause-document c = subst (λ t. IfOk c.end_document.result (λ document. t ≡ text_of document)) (sym c.in-Ok.ensures.text) c.end_document.ensures.document
+
+pub returns-in-Ok-clause-fault : goal.returns-in-Ok-clause-fault
+returns-in-Ok-clause-fault c = subst (λ t. IfErr c.end_document.result (λ refusal. FirstFault t refusal.line refusal.cause)) (sym c.in-Ok.ensures.text) c.end_document.ensures.fault
 
 pub returns-in-Err-clause-fault : goal.returns-in-Err-clause-fault
-returns-in-Err-clause-fault c =
-    let w = c.loop-next.wholes in
-    let r = reading_of w (open_at (table_in w) c.in-Due.due c.loop-next.stack.items) in
-    let here = rw c.in-Due.is at c.loop-next.invariant in
-    let bytes = c.in_ok-bytes.bytes.now in
-    let after = c.in_ok-bytes.after in
-    let at = at_line here bytes after c.part-lines.result.now c.len-in-loop-next.result c.len-in-loop-next.ensures c.in_ok-bytes.ensures.parts c.part-lines.ensures in
-    fault_here here c.in-Err.cause (subst (λ p. IsFirstCause (reading r) p c.in-Err.cause) (sym c.in_ok-bytes.ensures.piece) (c.in-Err.ensures.fault at))
-
-pub returns-then-is_err-clause-fault : goal.returns-then-is_err-clause-fault
-returns-then-is_err-clause-fault c =
-    let w = c.loop-next.wholes in
-    let here = rw c.in-Due.is at c.loop-next.invariant in
-    let bytes = c.in_ok-bytes.bytes.now in
-    let after = c.in_ok-bytes.after in
-    let at = at_line here bytes after c.part-lines.result.now c.len-in-loop-next.result c.len-in-loop-next.ensures c.in_ok-bytes.ensures.parts c.part-lines.ensures in
-    let taken = rw c.in-Done-2.is at (c.in-Ok.ensures.taken at) in
-    memory_refused here bytes after c.in_ok-bytes.ensures.parts (node_tree (table_in w) c.in-Done-2.tree) (omega (arith, c.if-wholes-eq0.false)) taken c.in_ok-bytes.ensures.piece
-
-pub overflow_add-line : goal.overflow_add-line
-overflow_add-line c =
-    let bytes = c.in_ok-bytes.bytes.now in
-    let after = c.in_ok-bytes.after in
-    omega (arith, few c.args.text.now c.loop-next.rest _ c.loop-next.line c.loop-next.invariant.has_read, ap length c.in_ok-bytes.ensures.parts, length-append bytes (10 ∷ after))
-
-pub loop-next-preserved : goal.loop-next-preserved
-loop-next-preserved c =
-    let w = c.loop-next.wholes in
-    let here = rw c.in-Due.is at c.loop-next.invariant in
-    let bytes = c.in_ok-bytes.bytes.now in
-    let after = c.in_ok-bytes.after in
-    let at = at_line here bytes after c.part-lines.result.now c.len-in-loop-next.result c.len-in-loop-next.ensures c.in_ok-bytes.ensures.parts c.part-lines.ensures in
-    let taken = c.in-Ok.ensures.taken at in
-    elim c.match-taken.branch [
-      | in-Due-taken x ↦ rw (x.wholes-is, x.stack-is, x.begin-is, x.next-is) (line_taken here bytes after c.in_ok-bytes.ensures.parts _ (rw x.in-Due-taken.is at taken) (λ t is. cc))
-      | in-Done-taken x ↦ rw (x.wholes-is, x.stack-is, x.begin-is, x.next-is) (line_taken here bytes after c.in_ok-bytes.ensures.parts _ (rw x.in-Done-taken.is at taken) (λ t is. omega (arith, x.if-wholes-eq0.true)))
-      | in-Done-2+else-is_err x ↦
-          let t = node_tree (table_in w) x.in-Done-taken.root in
-          let some : 0 < w.lacking = omega (arith, x.if-wholes-eq0.false) in
-          let next = c.in_ok-bytes.ensures.parts in
-          let whole = rw x.in-Done-taken.is at taken in
-          let fits = added_fits here bytes after next t some whole in
-          let lines = added_lines here bytes after next t some whole c.part-lines.result.now c.len-in-loop-next.result c.len-in-loop-next.ensures c.part-lines.ensures in
-          let ok = x.if-is_err.ensures.negation in
-          rw (x.wholes-is, x.stack-is, x.begin-is, x.next-is, x.clear.ensures.items)
-          (whole_added here bytes after next t some whole x.add.new.self x.len-in-Done-2.result x.len-in-Done-2.ensures (ok_holds x.add.result _ ok x.add.ensures.reading) (ok_holds x.add.result _ ok (x.add.ensures.known here.known fits.0 fits.1 lines)))
-    ]
+returns-in-Err-clause-fault c = c.in-Err.ensures.fault

@@ -8,7 +8,8 @@ use Rattle.archive_shape.specs.PartFault.PartFault.{fault_unanswered}
 use Rattle.archive_shape.specs.Kept.{range_of}
 use Rattle.archive_shape.specs.Steps.{StepTakes}
 use Rattle.archive_shape_writing.specs.declared.error.Error.TheVariants.{InvalidSubtreePointer}
-use Rattle.archive_shape.proofs.Ordered.{advances_then, checked_records}
+use Rattle.archive_shape.proofs.Ordered.{advances_then, advances_within, checked_records}
+use Rattle.archive_btree_nodes.specs.CheckingNodes.{BeginsNode}
 use Rattle.archive_forms_values.proofs.Claimed.{answered, pushed_narrow, pushed_within, last_push}
 use Rattle.archive_forms_values.proofs.Claiming.{pushes_of}
 use Rattle.archive_btree_nodes.proofs.Rooms.{room_of, link_aligned, node_some, one_fits}
@@ -47,7 +48,30 @@ check_child-returns-clause-exact g t c = λ names known_key known_value.
     (child_answered names c.args.bytes.now c.args.level g.row.E k v c.args.pos (range_of (g.C.ArchiveContext.kept c.args.context.now)) c.in-Some.to some low (sym c.in-Some.ensures))
     (c.check_node.ensures.exact names known_key known_value)
 
+pub check_child-check_node-requires : goal.check_child-check_node-requires
+check_child-check_node-requires g t c κs within =
+    let less : 4 * (33 - c.args.level) + 1 < t = omega arith in
+    let low : c.args.level ≤ 32 = omega (arith, c.if-level-gt-MAX_LEVELS.false) in
+    (less, (within.0, (within.1.0, (within.1.1.0, (within.1.1.1.0, (within.1.1.1.1, ((search rules), (low, (c.requires.layout, (c.requires.range, (c.requires.takes_key, (c.requires.takes_value, (c.requires.checks_key, c.requires.checks_value)))))))))))))
+
+pub check_child-returns-clause-moves : goal.check_child-returns-clause-moves
+check_child-returns-clause-moves g t c = c.check_node.ensures.moves
+
 -- ---- children
+
+pub check_children-check_child-requires : goal.check_children-check_child-requires
+check_children-check_child-requires g t c κs within =
+    let held = c.loop-i.invariant in
+    let less : 4 * (33 - c.args.level) + 2 < t = omega arith in
+    let here : c.loop-i.at + 4 ≤ length c.args.bytes.now = omega (arith, held.fits, c.loop-i-test.true) in
+    let takes_key : StepTakes g.F.Fn g.C.ArchiveContext.kept c.args.bytes.now g.K.Portable.shape c.args.key_step.now (g.C.ArchiveContext.kept c.loop-i.context) g.K.Portable.SIZE =
+    λ context pos narrower fits. c.requires.takes_key context pos (narrower_after _ held.advances _ narrower) fits in
+    let takes_value : StepTakes g.G.Fn g.C.ArchiveContext.kept c.args.bytes.now g.V.Portable.shape c.args.value_step.now (g.C.ArchiveContext.kept c.loop-i.context) g.V.Portable.SIZE =
+    λ context pos narrower fits. c.requires.takes_value context pos (narrower_after _ held.advances _ narrower) fits in
+    (less, (within.0, (within.1.0, (within.1.1.0, (within.1.1.1.0, (within.1.1.1.1, ((search rules), (c.requires.level, (c.requires.layout, (here, (advances_within _ c.requires.range held.advances, (takes_key, (takes_value, (c.requires.checks_key, c.requires.checks_value))))))))))))))
+
+pub check_children-returns-clause-moves : goal.check_children-returns-clause-moves
+check_children-returns-clause-moves g t c = c.loop-i.invariant.advances
 
 pub check_children-loop-i-init : goal.check_children-loop-i-init
 check_children-loop-i-init g t c =
@@ -130,7 +154,7 @@ check_inner-check_children-requires g t c κs within =
     λ context pos narrower fits. c.requires.takes_key context pos (narrower_inside _ claim _ narrower) fits in
     let takes_value : StepTakes g.G.Fn g.C.ArchiveContext.kept c.args.bytes.now v c.args.value_step.now (g.C.ArchiveContext.kept c.claim_node.new.context) g.V.Portable.SIZE =
     λ context pos narrower fits. c.requires.takes_value context pos (narrower_inside _ claim _ narrower) fits in
-    search rules
+    (less, (within.0, (within.1.0, (within.1.1.0, (within.1.1.1.0, (within.1.1.1.1, ((search rules), (next, (c.requires.layout, (fits, (range, (takes_key, (takes_value, (c.requires.checks_key, c.requires.checks_value))))))))))))))
 
 pub check_inner-returns-in_err-below-clause-exact : goal.check_inner-returns-in_err-below-clause-exact
 check_inner-returns-in_err-below-clause-exact g t c =
@@ -179,6 +203,17 @@ check_inner-check_entries-requires-clause-values_fit g t c =
     let within = claim.answered.0 in
     let room = room_of g.row.E k v c.args.layout (g.row.E + 1) c.args.pos (length c.args.bytes.now) c.requires.layout (omega (arith, within.ends, c.requires.range.covered)) (omega arith) in
     room.values_end
+
+pub check_inner-check_entries-requires-clause-range : goal.check_inner-check_entries-requires-clause-range
+check_inner-check_entries-requires-clause-range g t c =
+    let claim = c.in_ok-range.ensures (link_node_size (g.row.E + 1) g.row.E g.K.Portable.shape g.V.Portable.shape) c.requires.layout.inner in
+    advances_within _ (pushed_within (pushes_of claim) _ c.requires.range) c.in_ok-below.ensures.moves
+
+pub check_inner-check_entries-requires-clause-checks_key : goal.check_inner-check_entries-requires-clause-checks_key
+check_inner-check_entries-requires-clause-checks_key g t c = c.requires.checks_key
+
+pub check_inner-check_entries-requires-clause-checks_value : goal.check_inner-check_entries-requires-clause-checks_value
+check_inner-check_entries-requires-clause-checks_value g t c = c.requires.checks_value
 
 pub check_inner-check_entries-requires-clause-takes_key : goal.check_inner-check_entries-requires-clause-takes_key
 check_inner-check_entries-requires-clause-takes_key g t c some context pos narrower fits =
@@ -255,3 +290,53 @@ check_node-returns-in_default-clause-exact g t c = λ names known_key known_valu
     let begins = answered _ (record { start = c.args.pos; size = node_size g.row.E k v; align = max (align_of k) (align_of v) }) c.args.layout.size c.args.layout.align c.requires.layout.size c.requires.layout.align (omega arith) (c.in_ok-check_subtree_ptr.ensures.claimable refl) in
     let other = c.in_default in
     fault_unanswered (kind_unanswered names c.args.bytes.now c.args.level g.row.E k v c.args.pos _ c.requires.level (slice_index c.args.bytes.now c.args.pos) (record { within = begins.0; aligned = begins.1; tag = refl }) (omega arith))
+
+pub check_node-check_leaf-requires-clause-layout : goal.check_node-check_leaf-requires-clause-layout
+check_node-check_leaf-requires-clause-layout g t c = c.requires.layout
+
+pub check_node-check_leaf-requires-clause-range : goal.check_node-check_leaf-requires-clause-range
+check_node-check_leaf-requires-clause-range g t c = c.requires.range
+
+pub check_node-check_leaf-requires-clause-takes_key : goal.check_node-check_leaf-requires-clause-takes_key
+check_node-check_leaf-requires-clause-takes_key g t c = c.requires.takes_key
+
+pub check_node-check_leaf-requires-clause-takes_value : goal.check_node-check_leaf-requires-clause-takes_value
+check_node-check_leaf-requires-clause-takes_value g t c = c.requires.takes_value
+
+pub check_node-check_leaf-requires-clause-checks_key : goal.check_node-check_leaf-requires-clause-checks_key
+check_node-check_leaf-requires-clause-checks_key g t c = c.requires.checks_key
+
+pub check_node-check_leaf-requires-clause-checks_value : goal.check_node-check_leaf-requires-clause-checks_value
+check_node-check_leaf-requires-clause-checks_value g t c = c.requires.checks_value
+
+pub check_node-check_leaf-requires-clause-begins : goal.check_node-check_leaf-requires-clause-begins
+check_node-check_leaf-requires-clause-begins g t c =
+    let k = g.K.Portable.shape in
+    let v = g.V.Portable.shape in
+    let within = c.requires.range.covered in
+    let begins = answered _ (record { start = c.args.pos; size = node_size g.row.E k v; align = max (align_of k) (align_of v) }) c.args.layout.size c.args.layout.align c.requires.layout.size c.requires.layout.align (omega arith) (c.in_ok-check_subtree_ptr.ensures.claimable refl) in
+    let kind = c.in-0 in
+    record { within = begins.0; aligned = begins.1; tag = omega arith }
+
+pub check_node-check_inner-requires : goal.check_node-check_inner-requires
+check_node-check_inner-requires g t c κs within =
+    let k = g.K.Portable.shape in
+    let v = g.V.Portable.shape in
+    let less : 4 * (33 - c.args.level) < t = omega arith in
+    let covered = c.requires.range.covered in
+    let begins = answered _ (record { start = c.args.pos; size = node_size g.row.E k v; align = max (align_of k) (align_of v) }) c.args.layout.size c.args.layout.align c.requires.layout.size c.requires.layout.align (omega arith) (c.in_ok-check_subtree_ptr.ensures.claimable refl) in
+    let kind = c.in-1 in
+    let begun : BeginsNode (range_of (g.C.ArchiveContext.kept c.args.context.now)) c.args.bytes.now g.row.E k v c.args.pos 1 = record { within = begins.0; aligned = begins.1; tag = omega arith } in
+    (less, (within.0, (within.1.0, (within.1.1.0, (within.1.1.1.0, (within.1.1.1.1, ((search rules), (c.requires.level, (c.requires.layout, (begun, (c.requires.range, (c.requires.takes_key, (c.requires.takes_value, (c.requires.checks_key, c.requires.checks_value))))))))))))))
+
+pub check_node-returns-in-0-clause-moves : goal.check_node-returns-in-0-clause-moves
+check_node-returns-in-0-clause-moves g t c = c.check_leaf.ensures.moves
+
+pub check_node-returns-in-0-clause-exact : goal.check_node-returns-in-0-clause-exact
+check_node-returns-in-0-clause-exact g t c = λ names. c.check_leaf.ensures.exact names c.args.level c.requires.level
+
+pub check_node-returns-in-1-clause-moves : goal.check_node-returns-in-1-clause-moves
+check_node-returns-in-1-clause-moves g t c = c.check_inner.ensures.moves
+
+pub check_node-returns-in-1-clause-exact : goal.check_node-returns-in-1-clause-exact
+check_node-returns-in-1-clause-exact g t c = c.check_inner.ensures.exact

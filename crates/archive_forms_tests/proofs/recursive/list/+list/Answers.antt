@@ -4,10 +4,10 @@ use Rattle.archive_forms_tests.specs.Recursive.{list_shape}
 use Rattle.archive_forms_tests.proofs.Named.{list_checked}
 use Rattle.archive_forms_tests.proofs.recursive.list.+list.Goals as goal
 
-pub check_list-check_option_each-requires-clause-fits :
-    goal.check_list-check_option_each-requires-clause-fits
-check_list-check_option_each-requires-clause-fits g t c = omega (arith, option_box_sized list_shape, c.requires.fits)
+pub check_option_each-requires-clause-fits :
+    goal.check_option_each-requires-clause-fits
+check_option_each-requires-clause-fits g t c = omega (arith, option_box_sized list_shape, c.requires.fits)
 
-pub check_list-returns-clause-exact : goal.check_list-returns-clause-exact
-check_list-returns-clause-exact g t c = λ names known.
+pub returns-clause-exact : goal.returns-clause-exact
+returns-clause-exact g t c = λ names known.
     list_checked names c.args.bytes.now c.args.pos _ _ _ known (c.check_option_each.ensures.exact names known)

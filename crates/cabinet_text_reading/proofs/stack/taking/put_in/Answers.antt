@@ -5,6 +5,7 @@ use Rattle.cabinet_text_grammar.specs.Machine.{plug, going}
 use Rattle.cabinet_text_nodes.specs.View.{node_tree}
 use Rattle.cabinet_text_reading.specs.View.{stack_of, state_of}
 use Rattle.cabinet_text_reading.specs.declared.stack.frame.Frame.TheVariants as frame
+use Rattle.cabinet_text_reading.proofs.Taken.{on_err_given}
 use Rattle.cabinet_text_reading.proofs.Stacks.{unchanged, changed, list_open, counted_items}
 use Rattle.cabinet_text_reading.proofs.stack.taking.put_in.Goals as goal
 use Rattle.cabinet_text_reading.proofs.stack.taking.put_in.Goals.{in_default-frame-via-in-List+else-len-count, in_default-frame-via-in-Maybe-1}
@@ -34,3 +35,6 @@ returns-in_default-frame-clause-next c table around are =
     subst
     (λ fs. IfOk c.close_with.result (λ next. state_of table next c.close_with.new.stack.items ≡ plug (node_tree table c.args.complete) (stack_of table fs)))
     same (c.close_with.ensures table around opens)
+
+pub returns-in_default-frame-clause-memory : goal.returns-in_default-frame-clause-memory
+returns-in_default-frame-clause-memory c = on_err_given c.close_with.result (c.in-Some.ensures.variant.0 refl)

@@ -1,4 +1,4 @@
-use Rattle.std.proofs.Common.{string_bytes}
+use Rattle.std.proofs.Common.{refl, string_bytes}
 use Rattle.std.proofs.lemmas.Result.{err_from_is_err_and}
 use Rattle.std.proofs.lemmas.Str.{IsUtf8-string_bytes}
 use Rattle.cabinet_text_grammar.specs.Keys.{ordered, hashed, kept}
@@ -34,3 +34,21 @@ pub returns-in_ok-with_key-in-Kept-clause-admitted : goal.returns-in_ok-with_key
 returns-in_ok-with_key-in-Kept-clause-admitted c =
     let k = c.in_ok-with_key-in-Kept.field-0.1 in
     rw c.in-Kept.is (IsUtf8-string_bytes k, c.in_ok-with_key-in-Kept.ensures.after (string_bytes k) c.in_ok-with_key-in-Kept.ensures.key)
+
+pub returns-in_ok-key-in-Ordered-clause-kind : goal.returns-in_ok-key-in-Ordered-clause-kind
+returns-in_ok-key-in-Ordered-clause-kind c = rw c.in-Ordered.is refl
+
+pub returns-in_ok-key-in-Ordered-clause-pairs : goal.returns-in_ok-key-in-Ordered-clause-pairs
+returns-in_ok-key-in-Ordered-clause-pairs c = rw c.in-Ordered.is refl
+
+pub returns-in_ok-key-in-Ordered-clause-key : goal.returns-in_ok-key-in-Ordered-clause-key
+returns-in_ok-key-in-Ordered-clause-key c = c.in_ok-key-in-Ordered.ensures.key
+
+pub returns-in_ok-key-in-Hashed-clause-kind : goal.returns-in_ok-key-in-Hashed-clause-kind
+returns-in_ok-key-in-Hashed-clause-kind c = rw c.in-Hashed.is refl
+
+pub returns-in_ok-key-in-Hashed-clause-pairs : goal.returns-in_ok-key-in-Hashed-clause-pairs
+returns-in_ok-key-in-Hashed-clause-pairs c = rw c.in-Hashed.is refl
+
+pub returns-in_ok-key-in-Hashed-clause-key : goal.returns-in_ok-key-in-Hashed-clause-key
+returns-in_ok-key-in-Hashed-clause-key c = c.in_ok-key-in-Hashed.ensures.key

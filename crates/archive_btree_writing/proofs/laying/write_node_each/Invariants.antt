@@ -3,7 +3,7 @@ use Rattle.archive_forms_values.specs.FormsLaws.State.{State}
 use Rattle.archive_forms_values.specs.FormsLaws.Serializing.{IsAt}
 use Rattle.archive_forms_writing.proofs.Loops.{Reached}
 use Rattle.archive_btree_writing.specs.Nodes.{borrowed_entry}
-use Rattle.archive_btree_writing.proofs.entries.serialize_entries.Given as goal
+use Rattle.archive_btree_writing.proofs.laying.write_node_each.Given as goal
 
 abbrev pub invariant-loop-i : goal.invariant-loop-i
 invariant-loop-i g l = record {
