@@ -15,14 +15,14 @@ const ONE_OF_TWO: [u8; 52] = [
     0xff, 0xff, 0xff, 0, 0xe0, 0xff, 0xff, 0xff, 1, 0, 0, 0, 2, 0, 0, 0,
 ];
 
-/// Returns whether a table of numbers at the end of bytes is accepted, or the error.
-fn accepts<T: CheckBytes<ArchiveValidator>>(alloc: Global, bytes: &[u8; 52]) -> Result<(), Error> {
+/// Checks the table of numbers at the end of bytes.
+fn accepts(alloc: Global, bytes: &[u8; 52]) -> Result<(), Error> {
     let mut context = ArchiveValidator::new(alloc, bytes);
-    check_table_each::<T, ArchiveValidator, _>(
+    check_table_each::<ArchivedU32, ArchiveValidator, _>(
         bytes,
         40,
         &mut context,
-        |c: &mut ArchiveValidator, p: usize| T::check(alloc, bytes, p, c),
+        |c: &mut ArchiveValidator, p: usize| ArchivedU32::check(alloc, bytes, p, c),
     )
 }
 
@@ -38,69 +38,73 @@ fn changed(changes: &[(usize, u8)]) -> [u8; 52] {
 }
 
 #[test]
-fn spoilt_tables_are_refused(rt: HostRuntime) {
-    let rows: [(&[(usize, u8)], Error); 6] = [
+fn tables_are_accepted_and_spoilt_ones_refused(rt: HostRuntime) {
+    let wrong = Error::WrongNumberOfElements {
+        expected: 1,
+        actual: 2,
+    };
+    let rows: [(&[(usize, u8)], Result<(), Error>); 7] = [
+        (&[], Ok(())),
         // as many items as places
-        (&[(44, 2)], Error::TableLength { len: 2, cap: 2 }),
+        (&[(44, 2)], Err(Error::TableLength { len: 2, cap: 2 })),
         // controls and buckets that begin before the bytes
-        (&[(40, 0xd7)], Error::InvalidSubtreePointer { size: 39 }),
-        (&[(40, 0xdc)], Error::InvalidSubtreePointer { size: 39 }),
-        // a control that does not repeat, and a tag behind the repeated controls
-        (&[(11, 0x54)], Error::UnwrappedControlByte { index: 3 }),
-        (&[(38, 0x55)], Error::UnwrappedControlByte { index: 30 }),
-        // another number of items
         (
-            &[(8, 0), (10, 0)],
-            Error::WrongNumberOfElements {
-                expected: 1,
-                actual: 2,
-            },
+            &[(40, 0xd7)],
+            Err(Error::InvalidSubtreePointer { size: 39 }),
         ),
+        (
+            &[(40, 0xdc)],
+            Err(Error::InvalidSubtreePointer { size: 39 }),
+        ),
+        // a control that does not repeat, and a tag behind the repeated controls
+        (&[(11, 0x54)], Err(Error::UnwrappedControlByte { index: 3 })),
+        (
+            &[(38, 0x55)],
+            Err(Error::UnwrappedControlByte { index: 30 }),
+        ),
+        // another number of items
+        (&[(8, 0), (10, 0)], Err(wrong)),
     ];
-    for (changes, error) in rows {
-        let bytes = changed(changes);
-        assert!(rt; accepts::<ArchivedU32>(rt.alloc(), &bytes) == Err(error));
+    for (changes, result) in rows {
+        assert!(rt; accepts(rt.alloc(), &changed(changes)) == result);
     }
+    let mut empty = [0; 52];
+    empty[48] = 9;
+    assert!(rt; accepts(rt.alloc(), &empty) == Ok(()));
 }
 
-/// Returns whether the buckets and controls of a table of one entry are accepted, or the error.
+/// Checks the buckets and controls of a table of one entry.
 fn accepts_numbers(alloc: Global, bytes: &[u8; 52]) -> Result<(), Error> {
     let mut context = ArchiveValidator::new(alloc, bytes);
     check_place_buckets(bytes, 8, 1, 2, &mut context)
 }
 
 #[test]
-fn tables_are_accepted_and_numbers_of_no_entry_refused(rt: HostRuntime) {
+fn numbers_of_no_entry_are_refused(rt: HostRuntime) {
     let mut bytes = ONE_OF_TWO;
-    assert!(rt; accepts::<ArchivedU32>(rt.alloc(), &bytes) == Ok(()));
     assert!(rt; accepts_numbers(rt.alloc(), &bytes) == Err(Error::InvalidPlace));
     bytes[0] = 0;
     assert!(rt; accepts_numbers(rt.alloc(), &bytes) == Ok(()));
-    let mut empty = [0; 52];
-    empty[48] = 9;
-    assert!(rt; accepts::<ArchivedU32>(rt.alloc(), &empty) == Ok(()));
 }
 
 #[test]
 #[tactic(auto, unfolding(archive_shape_layout::specs::Content::control_count, archive_shape_layout::specs::Bytes::align_up))]
 fn controls_are_as_many_as_sixteens_of_places_and_fifteen_more(rt: HostRuntime) {
-    assert!(rt; control_count(2) == 31);
-    assert!(rt; control_count(16) == 31);
-    assert!(rt; control_count(17) == 47);
-    assert!(rt;
-        check_head::<ArchivedU32>(&ONE_OF_TWO, 40)
-            == Ok(Some(TableHead {
-                len: 1,
-                capacity: 2,
-                controls: 8
-            }))
-    );
+    let head = TableHead {
+        len: 1,
+        capacity: 2,
+        controls: 8,
+    };
     let controls = controls_at(&ONE_OF_TWO, 8, 2);
-    assert!(rt; controls[1] == 0x55);
-    assert!(rt; controls.len() == 31);
+    assert!(rt;
+        [control_count(2), control_count(16), control_count(17)] == [31, 31, 47]
+            && check_head::<ArchivedU32>(&ONE_OF_TWO, 40) == Ok(Some(head))
+            && controls[1] == 0x55
+            && controls.len() == 31
+    );
 }
 
-/// Returns whether the table of numbers without 0 at the end of bytes is verified, or the error.
+/// Verifies the table of numbers without 0 at the end of bytes.
 fn verifies(alloc: Global, bytes: &[u8; 52]) -> Result<(), Error> {
     let mut context = ArchiveValidator::new(alloc, bytes);
     let table: Ref<'_, ArchivedHashTable<ArchivedNonZeroU32>> = Ref::new(bytes, 40);
@@ -109,12 +113,13 @@ fn verifies(alloc: Global, bytes: &[u8; 52]) -> Result<(), Error> {
 
 #[test]
 fn tables_are_verified(rt: HostRuntime) {
-    let mut bytes = ONE_OF_TWO;
-    assert!(rt; verifies(rt.alloc(), &bytes) == Ok(()));
-    bytes[0] = 0;
-    assert!(rt; verifies(rt.alloc(), &bytes) == Err(Error::InvalidTag));
-    bytes[44] = 2;
-    assert!(rt; verifies(rt.alloc(), &bytes) == Err(InvalidLength { len: 2, cap: 2 }));
-    bytes[44] = 0;
-    assert!(rt; verifies(rt.alloc(), &bytes) == Ok(()));
+    let rows: [(&[(usize, u8)], Result<(), Error>); 4] = [
+        (&[], Ok(())),
+        (&[(0, 0)], Err(Error::InvalidTag)),
+        (&[(0, 0), (44, 2)], Err(InvalidLength { len: 2, cap: 2 })),
+        (&[(0, 0), (44, 0)], Ok(())),
+    ];
+    for (changes, result) in rows {
+        assert!(rt; verifies(rt.alloc(), &changed(changes)) == result);
+    }
 }

@@ -1,14 +1,13 @@
 //! Tests of archived index maps and sets: their entries in order, look-ups, writes through seals, comparing and printing.
-use crate::maps::printed;
+use crate::maps::prints;
 use crate::reading::root_of;
 use archive_forms_comparing::{ArchivedEq, ArchivedHash};
 use archive_forms_values::ArchivedString;
 use archive_hash_probing::FxHasher64;
 use archive_index::{ArchivedIndexMap, ArchivedIndexSet};
-use archive_shape::{ArchivedU32, Error, Seal};
+use archive_shape::{ArchivedU32, Seal};
 use std::alloc::Global;
 use std::hash::Hasher;
-use std::test::Fail;
 
 /// An archived index map from texts to numbers.
 pub(crate) type Numbers = ArchivedIndexMap<ArchivedString, ArchivedU32, FxHasher64>;
@@ -49,28 +48,27 @@ pub(crate) const TWO_KEYS: [u8; 76] = [
 /// A map or a set without entries.
 pub(crate) const NOTHING: [u8; 16] = [1, 0, 0, 0, 0, 0, 0, 0, 0, 0, 0, 0, 1, 0, 0, 0];
 
-/// Returns the positions of the keys and those of the values, from iterators over them alone.
-fn parted(alloc: Global, bytes: &[u8]) -> Result<(Vec<usize>, Vec<usize>), Error> {
-    let root = root_of::<Numbers>(alloc, bytes)?;
-    let mut keys = Vec::new(alloc);
-    for key in ArchivedIndexMap::keys(root) {
-        keys.push(key.pos())?;
+/// Returns whether iterators over the keys and the values alone walk these positions, each with its key first.
+fn are_walked(alloc: Global, bytes: &[u8], positions: &[(usize, usize)]) -> bool {
+    let Ok(root) = root_of::<Numbers>(alloc, bytes) else {
+        return false;
+    };
+    let mut keys = ArchivedIndexMap::keys(root);
+    let mut values = ArchivedIndexMap::values(root);
+    for (key_at, value_at) in positions {
+        match (keys.next(), values.next()) {
+            (Some(key), Some(value)) if key.pos() == *key_at && value.pos() == *value_at => {}
+            _ => return false,
+        }
     }
-    let mut values = Vec::new(alloc);
-    for value in ArchivedIndexMap::values(root) {
-        values.push(value.pos())?;
-    }
-    Ok((keys, values))
+    keys.next().is_none() && values.next().is_none()
 }
 
 #[test]
-fn keys_and_values_are_walked_in_order(rt: HostRuntime) -> Result<(), Fail> {
-    let (keys, values) = parted(rt.alloc(), &TWO)?;
-    assert!(rt; keys.as_slice() == [44, 56].as_slice());
-    assert!(rt; values.as_slice() == [52, 64].as_slice());
-    let (keys, values) = parted(rt.alloc(), &NOTHING)?;
-    assert!(rt; (keys.len(), values.len()) == (0, 0));
-    Ok(())
+fn keys_and_values_are_walked_in_order(rt: HostRuntime) {
+    assert!(rt;
+        are_walked(rt.alloc(), &TWO, &[(44, 52), (56, 64)]) && are_walked(rt.alloc(), &NOTHING, &[])
+    );
 }
 
 /// Returns the number and the position of the key that each seal lends for a text, and the lowest byte of the value of
@@ -79,108 +77,120 @@ fn lent(
     alloc: Global,
     text: &str,
     number: u32,
-) -> Result<(Option<(usize, usize)>, Option<usize>, [u8; 3]), Error> {
-    let pos = root_of::<Numbers>(alloc, &TWO)?.pos();
-    let mut first = TWO;
-    let full = match ArchivedIndexMap::get_full_seal(Seal::<Numbers>::new(&mut first, pos), &text) {
-        Some((index, key, value)) => {
-            let found = (index, key.pos());
-            value.write(number);
-            Some(found)
-        }
-        None => None,
+) -> Option<(Option<(usize, usize)>, Option<usize>, [u8; 3])> {
+    let Ok(root) = root_of::<Numbers>(alloc, &TWO) else {
+        return None;
     };
-    let mut second = TWO;
-    let pair = match ArchivedIndexMap::get_key_value_seal(
-        Seal::<Numbers>::new(&mut second, pos),
-        &text,
-    ) {
-        Some((key, value)) => {
-            let found = key.pos();
-            value.write(number);
-            Some(found)
-        }
-        None => None,
-    };
-    let mut third = TWO;
-    match ArchivedIndexMap::get_seal(Seal::<Numbers>::new(&mut third, pos), &text) {
-        Some(value) => value.write(number),
-        None => {}
+    let pos = root.pos();
+    let (mut first, mut second, mut third) = (TWO, TWO, TWO);
+    let (mut full, mut pair) = (None, None);
+    let seal = Seal::<Numbers>::new(&mut first, pos);
+    if let Some((index, key, value)) = ArchivedIndexMap::get_full_seal(seal, &text) {
+        full = Some((index, key.pos()));
+        value.write(number);
     }
-    Ok((full, pair, [first[64], second[64], third[64]]))
+    let seal = Seal::<Numbers>::new(&mut second, pos);
+    if let Some((key, value)) = ArchivedIndexMap::get_key_value_seal(seal, &text) {
+        pair = Some(key.pos());
+        value.write(number);
+    }
+    let seal = Seal::<Numbers>::new(&mut third, pos);
+    if let Some(value) = ArchivedIndexMap::get_seal(seal, &text) {
+        value.write(number);
+    }
+    Some((full, pair, [first[64], second[64], third[64]]))
 }
 
 #[test]
 fn values_are_written_over(rt: HostRuntime) {
-    assert!(rt; lent(rt.alloc(), "a", 9) == Ok((Some((1, 56)), Some(56), [9, 9, 9])));
-    assert!(rt; lent(rt.alloc(), "b", 9) == Ok((None, None, [2, 2, 2])));
+    assert!(rt;
+        lent(rt.alloc(), "a", 9) == Some((Some((1, 56)), Some(56), [9, 9, 9]))
+            && lent(rt.alloc(), "b", 9) == Some((None, None, [2, 2, 2]))
+    );
 }
 
 /// Returns whether two archives of maps are equal.
-fn equal_to(alloc: Global, bytes: &[u8], others: &[u8]) -> Result<bool, Error> {
-    let this = root_of::<Numbers>(alloc, bytes)?;
-    let other = root_of::<Numbers>(alloc, others)?;
-    Ok(ArchivedEq::eq(&this, &other))
+fn equal_to(alloc: Global, bytes: &[u8], others: &[u8]) -> Option<bool> {
+    let Ok(this) = root_of::<Numbers>(alloc, bytes) else {
+        return None;
+    };
+    match root_of::<Numbers>(alloc, others) {
+        Ok(other) => Some(ArchivedEq::eq(&this, &other)),
+        Err(_) => None,
+    }
 }
 
 /// Returns the hash of a map.
-fn hashed(alloc: Global, bytes: &[u8]) -> Result<u64, Error> {
-    let root = root_of::<Numbers>(alloc, bytes)?;
+fn hashed(alloc: Global, bytes: &[u8]) -> Option<u64> {
+    let Ok(root) = root_of::<Numbers>(alloc, bytes) else {
+        return None;
+    };
     let mut state = FxHasher64::default();
     ArchivedHash::hash(&root, &mut state);
-    Ok(state.finish())
+    Some(state.finish())
 }
 
 #[test]
 fn maps_of_equal_entries_in_the_same_order_are_equal_and_hash_alike(rt: HostRuntime) {
     let alloc = rt.alloc();
-    assert!(rt; equal_to(alloc, &TWO, &TWO) == Ok(true));
-    assert!(rt; equal_to(alloc, &TWO, &EXCHANGED) == Ok(false));
-    assert!(rt; equal_to(alloc, &TWO, &NOTHING) == Ok(false));
-    assert!(rt; equal_to(alloc, &NOTHING, &NOTHING) == Ok(true));
-    assert!(rt; hashed(alloc, &TWO) == hashed(alloc, &TWO));
-    assert!(rt; hashed(alloc, &TWO) != hashed(alloc, &EXCHANGED));
+    assert!(rt;
+        equal_to(alloc, &TWO, &TWO) == Some(true)
+            && equal_to(alloc, &TWO, &EXCHANGED) == Some(false)
+            && equal_to(alloc, &TWO, &NOTHING) == Some(false)
+            && equal_to(alloc, &NOTHING, &NOTHING) == Some(true)
+    );
+    let hash = hashed(alloc, &TWO);
+    assert!(rt; hash.is_some() && hashed(alloc, &TWO) == hash && hashed(alloc, &EXCHANGED) != hash);
 }
 
 #[test]
-fn maps_and_sets_are_printed_as_those_of_std(rt: HostRuntime) -> Result<(), Fail> {
-    assert!(rt; printed::<Numbers>(rt.alloc(), &TWO)?.as_str() == "{\"z\": 1, \"a\": 2}");
-    assert!(rt; printed::<Keys>(rt.alloc(), &TWO_KEYS)?.as_str() == "{\"z\", \"a\"}");
-    assert!(rt; printed::<Numbers>(rt.alloc(), &NOTHING)?.as_str() == "{}");
-    Ok(())
+fn maps_and_sets_are_printed_as_those_of_std(rt: HostRuntime) {
+    let alloc = rt.alloc();
+    assert!(rt;
+        prints::<Numbers>(alloc, &TWO, "{\"z\": 1, \"a\": 2}")
+            && prints::<Keys>(alloc, &TWO_KEYS, "{\"z\", \"a\"}")
+            && prints::<Numbers>(alloc, &NOTHING, "{}")
+    );
 }
 
-/// Returns the number and the position of a key of the set, as each look-up returns them, and whether the set has it.
-fn key_of(
-    alloc: Global,
-    text: &str,
-) -> Result<(Option<(usize, usize, usize, usize)>, bool), Error> {
-    let root = root_of::<Keys>(alloc, &TWO_KEYS)?;
-    let is_there = ArchivedIndexSet::contains(root, &text);
+/// Returns whether each look-up of a text in the set returns this number and position of its key, or none.
+fn has_key(alloc: Global, text: &str, found: Option<(usize, usize)>) -> bool {
+    let Ok(root) = root_of::<Keys>(alloc, &TWO_KEYS) else {
+        return false;
+    };
+    if ArchivedIndexSet::contains(root, &text) != found.is_some() {
+        return false;
+    }
     let full = ArchivedIndexSet::get_full(root, &text);
     let key = ArchivedIndexSet::get(root, &text);
     match (full, key, ArchivedIndexSet::get_index_of(root, &text)) {
         (Some((index, at)), Some(key), Some(number)) => {
-            Ok((Some((index, at.pos(), key.pos(), number)), is_there))
+            found == Some((index, at.pos())) && found == Some((number, key.pos()))
         }
-        _ => Ok((None, is_there)),
+        (None, None, None) => found.is_none(),
+        _ => false,
     }
 }
 
-/// Returns the position of the key with a number.
-fn numbered_key(alloc: Global, index: usize) -> Result<Option<usize>, Error> {
-    let root = root_of::<Keys>(alloc, &TWO_KEYS)?;
+/// Returns whether the key with a number has this position, or there is none.
+fn has_numbered_key(alloc: Global, index: usize, found: Option<usize>) -> bool {
+    let Ok(root) = root_of::<Keys>(alloc, &TWO_KEYS) else {
+        return false;
+    };
     match ArchivedIndexSet::get_index(root, index) {
-        Some(key) => Ok(Some(key.pos())),
-        None => Ok(None),
+        Some(key) => found == Some(key.pos()),
+        None => found.is_none(),
     }
 }
 
 #[test]
 fn keys_of_sets_are_found_and_have_numbers(rt: HostRuntime) {
-    assert!(rt; key_of(rt.alloc(), "z") == Ok((Some((0, 44, 44, 0)), true)));
-    assert!(rt; key_of(rt.alloc(), "a") == Ok((Some((1, 52, 52, 1)), true)));
-    assert!(rt; key_of(rt.alloc(), "b") == Ok((None, false)));
-    assert!(rt; numbered_key(rt.alloc(), 1) == Ok(Some(52)));
-    assert!(rt; numbered_key(rt.alloc(), 2) == Ok(None));
+    let alloc = rt.alloc();
+    assert!(rt;
+        has_key(alloc, "z", Some((0, 44)))
+            && has_key(alloc, "a", Some((1, 52)))
+            && has_key(alloc, "b", None)
+            && has_numbered_key(alloc, 1, Some(52))
+            && has_numbered_key(alloc, 2, None)
+    );
 }

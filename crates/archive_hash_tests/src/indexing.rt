@@ -16,7 +16,7 @@ const ONE_PAIR: [u8; 64] = [
 
 type Pair = ArchivedTuple2<ArchivedU32, ArchivedNonZeroU32>;
 
-/// Returns whether the map at the end of bytes is accepted, or the error.
+/// Checks the index map at the end of bytes.
 fn accepts(alloc: Global, bytes: &[u8; 64]) -> Result<(), Error> {
     let mut context = ArchiveValidator::new(alloc, bytes);
     check_index_map_each::<Pair, ArchiveValidator, _>(
@@ -38,22 +38,22 @@ fn changed(index: usize, value: u8) -> [u8; 64] {
 
 #[test]
 fn index_maps_are_accepted_and_spoilt_ones_refused(rt: HostRuntime) {
-    assert!(rt; accepts(rt.alloc(), &ONE_PAIR) == Ok(()));
+    let rows: [(usize, u8, Result<(), Error>); 5] = [
+        // the bytes as they are
+        (0, 0, Ok(())),
+        // the number of no entry
+        (4, 1, Err(Error::InvalidPlace)),
+        // entries that begin before the bytes, and entries in the table
+        (60, 0xc3, Err(Error::InvalidSubtreePointer { size: 8 })),
+        (60, 0xe4, Err(Error::InvalidSubtreePointer { size: 8 })),
+        // an entry whose value is no number of its type
+        (44, 0, Err(Error::InvalidTag)),
+    ];
+    for (index, value, result) in rows {
+        assert!(rt; accepts(rt.alloc(), &changed(index, value)) == result);
+    }
     let mut empty = [0; 64];
     empty[56] = 9;
     empty[60] = 9;
     assert!(rt; accepts(rt.alloc(), &empty) == Ok(()));
-    let rows: [(usize, u8, Error); 4] = [
-        // the number of no entry
-        (4, 1, Error::InvalidPlace),
-        // entries that begin before the bytes, and entries in the table
-        (60, 0xc3, Error::InvalidSubtreePointer { size: 8 }),
-        (60, 0xe4, Error::InvalidSubtreePointer { size: 8 }),
-        // an entry whose value is no number of its type
-        (44, 0, Error::InvalidTag),
-    ];
-    for (index, value, error) in rows {
-        let bytes = changed(index, value);
-        assert!(rt; accepts(rt.alloc(), &bytes) == Err(error));
-    }
 }

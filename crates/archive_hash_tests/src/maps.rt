@@ -1,17 +1,16 @@
 //! Tests of iterating over, writing to, comparing and printing archived hash maps, and of printing archived hash sets.
 ghost use Rattle.std.specs.Prelude.{[]};
 
-use crate::reading::root_of;
+use crate::reading::{HASH_OF_A, ONE_OF_TWO, root_of};
 use archive_core_validation::HighValidator;
 use archive_forms_comparing::ArchivedDebug;
 use archive_forms_values::ArchivedString;
 use archive_hash_maps::{ArchivedHashMap, ArchivedHashSet, ArchivedHashTable, eq_hash_map};
 use archive_hash_probing::FxHasher64;
-use archive_shape::{ArchivedU32, CheckBytes, Error, Ref, Seal};
+use archive_shape::{ArchivedU32, CheckBytes, Ref, Seal};
 use std::alloc::Global;
 use std::collections::HashMap;
 use std::fmt::Formatter;
-use std::test::Fail;
 
 /// An archived map from texts to texts.
 pub(crate) type Texts = ArchivedHashMap<ArchivedString, ArchivedString, FxHasher64>;
@@ -43,31 +42,32 @@ const THREE_KEYS: [u8; 76] = [
 /// A map or a set without entries.
 pub(crate) const NOTHING: [u8; 12] = [1, 0, 0, 0, 0, 0, 0, 0, 0, 0, 0, 0];
 
-/// Returns the positions of the keys and those of the values, from iterators over them alone.
-fn parted(alloc: Global) -> Result<(Vec<usize>, Vec<usize>), Error> {
-    let root = root_of::<Texts>(alloc, &THREE)?;
-    let mut keys = Vec::new(alloc);
-    for key in ArchivedHashMap::keys(root) {
-        keys.push(key.pos())?;
+/// Returns whether iterators over the keys and the values alone walk these positions, each with its key first.
+fn are_walked(alloc: Global, positions: &[(usize, usize)]) -> bool {
+    let Ok(root) = root_of::<Texts>(alloc, &THREE) else {
+        return false;
+    };
+    let mut keys = ArchivedHashMap::keys(root);
+    let mut values = ArchivedHashMap::values(root);
+    for (key_at, value_at) in positions {
+        match (keys.next(), values.next()) {
+            (Some(key), Some(value)) if key.pos() == *key_at && value.pos() == *value_at => {}
+            _ => return false,
+        }
     }
-    let mut values = Vec::new(alloc);
-    for value in ArchivedHashMap::values(root) {
-        values.push(value.pos())?;
-    }
-    Ok((keys, values))
+    keys.next().is_none() && values.next().is_none()
 }
 
 #[test]
-fn keys_and_values_are_walked_by_ascending_place(rt: HostRuntime) -> Result<(), Fail> {
-    let (keys, values) = parted(rt.alloc())?;
-    assert!(rt; keys.as_slice() == [48, 16, 0].as_slice());
-    assert!(rt; values.as_slice() == [56, 24, 8].as_slice());
-    Ok(())
+fn keys_and_values_are_walked_by_ascending_place(rt: HostRuntime) {
+    assert!(rt; are_walked(rt.alloc(), &[(48, 56), (16, 24), (0, 8)]));
 }
 
 /// Returns the position of the key that the caller's comparison accepts for the hash of a text, and that of its value.
-fn compared(alloc: Global, text: &str, at: usize) -> Result<(Option<usize>, Option<usize>), Error> {
-    let root = root_of::<Texts>(alloc, &THREE)?;
+fn compared(alloc: Global, text: &str, at: usize) -> Option<(Option<usize>, Option<usize>)> {
+    let Ok(root) = root_of::<Texts>(alloc, &THREE) else {
+        return None;
+    };
     let is_there = |_text: &&str, key: Ref<'_, ArchivedString>| key.pos() == at;
     let key = match ArchivedHashMap::get_key_value_with(root, &text, &is_there) {
         Some((key, _)) => Some(key.pos()),
@@ -77,124 +77,145 @@ fn compared(alloc: Global, text: &str, at: usize) -> Result<(Option<usize>, Opti
         Some(value) => Some(value.pos()),
         None => None,
     };
-    Ok((key, value))
+    Some((key, value))
 }
 
 #[test]
 fn comparisons_of_the_caller_find_keys_under_the_hash(rt: HostRuntime) {
-    assert!(rt; compared(rt.alloc(), "hello", 16) == Ok((Some(16), Some(24))));
-    assert!(rt; compared(rt.alloc(), "hello", 20) == Ok((None, None)));
-    assert!(rt; compared(rt.alloc(), "world", 16) == Ok((None, None)));
+    let alloc = rt.alloc();
+    assert!(rt;
+        compared(alloc, "hello", 16) == Some((Some(16), Some(24)))
+            && compared(alloc, "hello", 20) == Some((None, None))
+            && compared(alloc, "world", 16) == Some((None, None))
+    );
 }
 
 /// Returns the bytes of the map after a text was written over the value of a key, which is inline.
-fn written(alloc: Global, key: &str, text: &str) -> Result<[u8; 108], Error> {
+fn written(alloc: Global, key: &str, text: &str) -> Option<[u8; 108]> {
     let mut bytes = THREE;
-    let pos = root_of::<Texts>(alloc, &bytes)?.pos();
-    match ArchivedHashMap::get_seal(Seal::<Texts>::new(&mut bytes, pos), &key) {
-        Some(value) => {
-            let Seal { bytes, pos, .. } = value;
-            if pos <= bytes.len() && text.len() <= bytes.len() - pos {
-                bytes[pos..pos + text.len()].copy_from_slice(text.as_bytes());
-            }
+    let Ok(root) = root_of::<Texts>(alloc, &bytes) else {
+        return None;
+    };
+    let pos = root.pos();
+    if let Some(value) = ArchivedHashMap::get_seal(Seal::<Texts>::new(&mut bytes, pos), &key) {
+        let Seal { bytes, pos, .. } = value;
+        if pos <= bytes.len() && text.len() <= bytes.len() - pos {
+            bytes[pos..pos + text.len()].copy_from_slice(text.as_bytes());
         }
-        None => {}
     }
-    Ok(bytes)
+    Some(bytes)
 }
 
 #[test]
 fn values_of_keys_are_written_over(rt: HostRuntime) {
     let mut expected = THREE;
     expected[24..29].copy_from_slice(b"WORLD");
-    assert!(rt; written(rt.alloc(), "hello", "WORLD") == Ok(expected));
-    assert!(rt; written(rt.alloc(), "world", "WORLD") == Ok(THREE));
+    assert!(rt;
+        written(rt.alloc(), "hello", "WORLD") == Some(expected)
+            && written(rt.alloc(), "world", "WORLD") == Some(THREE)
+    );
 }
 
 /// Returns the bytes of a table of one number after another number was written over the item of a hash.
-fn item_written(alloc: Global, hash: u64, number: u32) -> Result<[u8; 52], Error> {
-    let mut bytes = crate::reading::ONE_OF_TWO;
-    let pos = root_of::<ArchivedHashTable<ArchivedU32>>(alloc, &bytes)?.pos();
+fn item_written(alloc: Global, hash: u64, number: u32) -> Option<[u8; 52]> {
+    let mut bytes = ONE_OF_TWO;
+    let Ok(root) = root_of::<ArchivedHashTable<ArchivedU32>>(alloc, &bytes) else {
+        return None;
+    };
+    let pos = root.pos();
     let is_first = |item: Ref<'_, ArchivedU32>| item.pos() == 0;
     let seal = Seal::<ArchivedHashTable<ArchivedU32>>::new(&mut bytes, pos);
-    match ArchivedHashTable::get_seal_with(seal, hash, &is_first) {
-        Some(item) => item.write(number),
-        None => {}
+    if let Some(item) = ArchivedHashTable::get_seal_with(seal, hash, &is_first) {
+        item.write(number);
     }
-    Ok(bytes)
+    Some(bytes)
 }
 
 #[test]
 fn items_of_hashes_are_written_over(rt: HostRuntime) {
-    let mut expected = crate::reading::ONE_OF_TWO;
+    let mut expected = ONE_OF_TWO;
     expected[0] = 9;
-    assert!(rt; item_written(rt.alloc(), crate::reading::HASH_OF_A, 9) == Ok(expected));
-    assert!(rt; item_written(rt.alloc(), 0, 9) == Ok(crate::reading::ONE_OF_TWO));
+    assert!(rt;
+        item_written(rt.alloc(), HASH_OF_A, 9) == Some(expected)
+            && item_written(rt.alloc(), 0, 9) == Some(ONE_OF_TWO)
+    );
 }
 
 /// Returns whether the map is equal to a map of std with these pairs.
-fn equals(alloc: Global, pairs: &[(&'static str, &'static str)]) -> Result<bool, Error> {
-    let root = root_of::<Texts>(alloc, &THREE)?;
+fn equals(alloc: Global, pairs: &[(&'static str, &'static str)]) -> Option<bool> {
+    let Ok(root) = root_of::<Texts>(alloc, &THREE) else {
+        return None;
+    };
     let mut other = HashMap::new(alloc);
     for (key, value) in pairs {
         if other.insert(*key, *value).is_err() {
-            return Err(Error::OutOfMemory);
+            return None;
         }
     }
-    Ok(eq_hash_map(&root, &other))
+    Some(eq_hash_map(&root, &other))
 }
+
+/// Pairs of maps of std, and whether the map is equal to each of those.
+const PAIRS: [(&[(&str, &str)], bool); 4] = [
+    (&[("foo", "bar"), ("baz", "bat"), ("hello", "world")], true),
+    (&[("foo", "bar"), ("baz", "bat"), ("hello", "WORLD")], false),
+    (&[("foo", "bar"), ("baz", "bat"), ("world", "world")], false),
+    (&[("foo", "bar"), ("baz", "bat")], false),
+];
 
 #[test]
 fn maps_of_the_same_pairs_are_equal(rt: HostRuntime) {
-    let foo = ("foo", "bar");
-    let baz = ("baz", "bat");
-    assert!(rt; equals(rt.alloc(), &[foo, baz, ("hello", "world")]) == Ok(true));
-    assert!(rt; equals(rt.alloc(), &[foo, baz, ("hello", "WORLD")]) == Ok(false));
-    assert!(rt; equals(rt.alloc(), &[foo, baz, ("world", "world")]) == Ok(false));
-    assert!(rt; equals(rt.alloc(), &[foo, baz]) == Ok(false));
+    for (pairs, is_equal) in PAIRS {
+        assert!(rt; equals(rt.alloc(), pairs) == Some(is_equal));
+    }
 }
 
 /// Returns whether two archives of maps are equal.
-fn equal_to(alloc: Global, bytes: &[u8], others: &[u8]) -> Result<bool, Error> {
-    let this = root_of::<Texts>(alloc, bytes)?;
-    let other = root_of::<Texts>(alloc, others)?;
-    Ok(ArchivedHashMap::equals(this, other))
+fn equal_to(alloc: Global, bytes: &[u8], others: &[u8]) -> Option<bool> {
+    let Ok(this) = root_of::<Texts>(alloc, bytes) else {
+        return None;
+    };
+    match root_of::<Texts>(alloc, others) {
+        Ok(other) => Some(ArchivedHashMap::equals(this, other)),
+        Err(_) => None,
+    }
 }
 
 #[test]
 fn archived_maps_of_equal_entries_are_equal(rt: HostRuntime) {
     let mut changed = THREE;
     changed[24..29].copy_from_slice(b"WORLD");
-    assert!(rt; equal_to(rt.alloc(), &THREE, &THREE) == Ok(true));
-    assert!(rt; equal_to(rt.alloc(), &THREE, &changed) == Ok(false));
-    assert!(rt; equal_to(rt.alloc(), &THREE, &NOTHING) == Ok(false));
-    assert!(rt; equal_to(rt.alloc(), &NOTHING, &NOTHING) == Ok(true));
+    let alloc = rt.alloc();
+    assert!(rt;
+        equal_to(alloc, &THREE, &THREE) == Some(true)
+            && equal_to(alloc, &THREE, &changed) == Some(false)
+            && equal_to(alloc, &THREE, &NOTHING) == Some(false)
+            && equal_to(alloc, &NOTHING, &NOTHING) == Some(true)
+    );
 }
 
-/// Returns the debug text of a map or a set.
-pub(crate) fn printed<T: ArchivedDebug + CheckBytes<HighValidator>>(
+/// Returns whether a map or a set has this debug text.
+pub(crate) fn prints<T: ArchivedDebug + CheckBytes<HighValidator>>(
     alloc: Global,
     bytes: &[u8],
-) -> Result<String, Error>
+    text: &str,
+) -> bool
     requires { T.knows [] }
 {
-    let root = root_of::<T>(alloc, bytes)?;
+    let Ok(root) = root_of::<T>(alloc, bytes) else {
+        return false;
+    };
     let mut f = Formatter::new(String::new(alloc));
-    match T::fmt(&root, &mut f) {
-        Ok(()) => Ok(f.into_inner()),
-        Err(_) => Err(Error::OutOfMemory),
-    }
+    T::fmt(&root, &mut f).is_ok() && f.into_inner().as_str() == text
 }
 
 #[test]
-fn maps_and_sets_are_printed_as_those_of_std(rt: HostRuntime) -> Result<(), Fail> {
+fn maps_and_sets_are_printed_as_those_of_std(rt: HostRuntime) {
+    let alloc = rt.alloc();
+    let three = "{\"baz\": \"bat\", \"hello\": \"world\", \"foo\": \"bar\"}";
     assert!(rt;
-        printed::<Texts>(rt.alloc(), &THREE)?.as_str()
-            == "{\"baz\": \"bat\", \"hello\": \"world\", \"foo\": \"bar\"}"
+        prints::<Texts>(alloc, &THREE, three)
+            && prints::<Keys>(alloc, &THREE_KEYS, "{\"baz\", \"hello\", \"foo\"}")
+            && prints::<Texts>(alloc, &NOTHING, "{}")
     );
-    assert!(rt;
-        printed::<Keys>(rt.alloc(), &THREE_KEYS)?.as_str() == "{\"baz\", \"hello\", \"foo\"}"
-    );
-    assert!(rt; printed::<Texts>(rt.alloc(), &NOTHING)?.as_str() == "{}");
-    Ok(())
 }

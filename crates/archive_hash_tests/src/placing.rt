@@ -7,12 +7,9 @@ use archive_shape::Error;
 #[test]
 fn strides_go_on_by_more_each_time(rt: HostRuntime) {
     let mut strides = Strides::new(5, 65);
-    assert!(rt; strides.next() == Some(5));
-    assert!(rt; strides.next() == Some(21));
-    assert!(rt; strides.next() == Some(53));
-    assert!(rt; strides.next() == Some(37));
-    assert!(rt; strides.next() == Some(69));
-    assert!(rt; strides.next() == None);
+    for place in [Some(5), Some(21), Some(53), Some(37), Some(69), None] {
+        assert!(rt; strides.next() == place);
+    }
 }
 
 #[test]
@@ -53,42 +50,32 @@ const HASHES: [u64; 15] = [
 
 const PLACES: [u32; 15] = [0, 12, 13, 11, 10, 9, 14, 4, 8, 1, 15, 2, 16, 3, 5];
 
-/// The result of writing a table of these hashes by a scan of one width.
-#[derive(Clone, Copy, Debug, PartialEq, Eq)]
-struct Written {
-    controls: [u8; 47],
-    /// The number of strides that all items cost together, if each is found at its place.
-    strides: Option<usize>,
-    /// The place that one more item would have.
-    empty: Option<usize>,
-}
-
+/// Returns the controls of a table of these hashes, as a scan of one width writes them, the number of strides that all
+/// items cost together, and the place that one more item would have; or none, if an item is not at its place or is not
+/// found there.
 #[tactic(auto, unfolding(archive_shape_layout::specs::Content::control_count, archive_shape_layout::specs::Bytes::align_up))]
-fn written_by<S: Scan>() -> Written {
+fn written_by<S: Scan>() -> Option<([u8; 47], usize, usize)> {
     let mut controls = [0u8; 47];
     let mut places = [0u32; 15];
     write_controls::<S>(&mut controls, 17, &HASHES, &mut places);
-    let mut strides = Some(0);
+    let mut strides = 0;
+    let mut is_found = places == PLACES;
     for i in 0..15 {
         let place = PLACES[i] as usize;
         let found = find::<S, _>(&controls, 17, HASHES[i], &|other| other == place);
-        if found.place != Some(place) || places[i] != PLACES[i] {
-            strides = None;
-        }
-        strides = strides.and_then(|sum: usize| sum.checked_add(found.strides));
+        is_found = is_found && found.place == Some(place);
+        strides = usize::wrapping_add(strides, found.strides);
     }
-    Written {
-        controls,
-        strides,
-        empty: first_empty::<S>(&controls, 17, 0),
+    match first_empty::<S>(&controls, 17, 0) {
+        Some(empty) if is_found => Some((controls, strides, empty)),
+        _ => None,
     }
 }
 
 #[test]
 fn every_width_writes_and_finds_alike(rt: HostRuntime) {
     let by_one = written_by::<Group1>();
-    assert!(rt; by_one.strides.is_some());
-    assert!(rt; by_one.empty.is_some());
-    assert!(rt; written_by::<Group8>() == by_one);
-    assert!(rt; written_by::<Group16>() == by_one);
+    assert!(rt;
+        by_one.is_some() && [written_by::<Group8>(), written_by::<Group16>()] == [by_one, by_one]
+    );
 }

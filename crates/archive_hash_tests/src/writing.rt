@@ -34,27 +34,28 @@ type Numbers = OwnedHashMap<String, u32>;
 type ArchivedNumbers = ArchivedHashMap<ArchivedString, ArchivedU32, FxHasher64>;
 
 /// Returns a number in decimal.
-fn decimal(alloc: Global, number: u32) -> Result<String, Error> {
+fn decimal(alloc: Global, number: u32) -> Option<String> {
     match format!(in alloc; "{number}") {
-        Ok(text) => Ok(text),
-        Err(_) => Err(Error::OutOfMemory),
+        Ok(text) => Some(text),
+        Err(_) => None,
     }
 }
 
 /// Returns the size in bytes of the archive of a map of `count` numbers in decimal, each with three words of eight
 /// bytes as its value.
-fn size_of_decimals(alloc: Global, count: u32) -> Result<usize, Error> {
+fn size_of_decimals(alloc: Global, count: u32) -> Option<usize> {
     let mut map = HashMap::new(alloc);
     for number in 0..count {
-        if map
-            .insert(decimal(alloc, number)?, [u64::from(number), 0, 0])
-            .is_err()
-        {
-            return Err(Error::OutOfMemory);
+        let key = decimal(alloc, number)?;
+        if map.insert(key, [u64::from(number), 0, 0]).is_err() {
+            return None;
         }
     }
     let owned: OwnedHashMap<String, [u64; 3]> = OwnedHashMap { map };
-    Ok(to_bytes(alloc, &owned)?.len())
+    match to_bytes(alloc, &owned) {
+        Ok(bytes) => Some(bytes.len()),
+        Err(_) => None,
+    }
 }
 
 #[test]
@@ -70,60 +71,67 @@ fn tables_have_a_place_more_than_items_and_seven_of_eight_places_full(rt: HostRu
         (112, 4252),
         (215, 8124),
     ] {
-        assert!(rt; size_of_decimals(rt.alloc(), count) == Ok(size));
+        assert!(rt; size_of_decimals(rt.alloc(), count) == Some(size));
     }
 }
 
 /// Returns the map from the decimal texts of the numbers below `count` to those numbers.
-fn decimals(alloc: Global, count: u32) -> Result<Numbers, Error> {
+fn decimals(alloc: Global, count: u32) -> Option<Numbers> {
     let mut map = HashMap::new(alloc);
     for number in 0..count {
         if map.insert(decimal(alloc, number)?, number).is_err() {
-            return Err(Error::OutOfMemory);
+            return None;
         }
     }
-    Ok(OwnedHashMap { map })
+    Some(OwnedHashMap { map })
 }
 
-/// Returns whether that map is read back from its archive.
-fn is_read_back(alloc: Global, count: u32) -> Result<bool, Error> {
-    let owned = decimals(alloc, count)?;
-    let bytes = to_bytes(alloc, &owned)?;
-    let read = from_bytes::<Numbers>(alloc, &bytes)?;
-    Ok(read.map == owned.map)
-}
-
-/// Returns whether every key in the archive of that map has its number, and a text that is no key has none.
-fn leads_to_all(alloc: Global, count: u32) -> Result<bool, Error> {
-    let bytes = to_bytes(alloc, &decimals(alloc, count)?)?;
-    let root = root_of::<ArchivedNumbers>(alloc, bytes.as_slice())?;
-    for number in 0..count {
-        let text = decimal(alloc, number)?;
-        match ArchivedHashMap::get(root, &text.as_str()) {
-            Some(value) if native_of(value) == number => {}
-            _ => return Ok(false),
-        }
-    }
-    Ok(!ArchivedHashMap::contains_key(root, &"none"))
-}
-
-/// Returns the number that `index` returns for a text that `get` has found in the archive of that map.
-fn indexed(alloc: Global, count: u32, text: &str) -> Result<Option<u32>, Error> {
-    let bytes = to_bytes(alloc, &decimals(alloc, count)?)?;
-    let root = root_of::<ArchivedNumbers>(alloc, bytes.as_slice())?;
-    match ArchivedHashMap::get(root, &text) {
-        Some(value) => {
-            found_is_present(root, &text, value);
-            Ok(Some(native_of(ArchivedHashMap::index(root, &text))))
-        }
-        None => Ok(None),
+/// Returns whether a map is read back from its archive.
+fn is_read_back(alloc: Global, owned: &Numbers, bytes: &[u8]) -> bool {
+    match from_bytes::<Numbers>(alloc, bytes) {
+        Ok(read) => read.map == owned.map,
+        Err(_) => false,
     }
 }
 
-#[test]
-fn keys_that_are_found_can_be_indexed(rt: HostRuntime) {
-    assert!(rt; indexed(rt.alloc(), 17, "16") == Ok(Some(16)));
-    assert!(rt; indexed(rt.alloc(), 17, "17") == Ok(None));
+/// Returns whether every key in the archive of the map of `count` numbers has its number, by `get` and by `index`, and a
+/// text that is no key has none.
+fn leads_to_all(alloc: Global, count: u32, bytes: &[u8]) -> bool {
+    let Ok(root) = root_of::<ArchivedNumbers>(alloc, bytes) else {
+        return false;
+    };
+    for number in 0..=count {
+        let Some(text) = decimal(alloc, number) else {
+            return false;
+        };
+        let query = text.as_str();
+        match ArchivedHashMap::get(root, &query) {
+            Some(value) => {
+                found_is_present(root, &query, value);
+                let index = ArchivedHashMap::index(root, &query);
+                if number == count || native_of(value) != number || native_of(index) != number {
+                    return false;
+                }
+            }
+            None if number == count => {}
+            None => return false,
+        }
+    }
+    !ArchivedHashMap::contains_key(root, &"none")
+}
+
+/// Returns whether the map of `count` numbers is read back from its archive, and each of its keys is found there.
+fn is_kept(alloc: Global, count: u32) -> bool {
+    let Some(owned) = decimals(alloc, count) else {
+        return false;
+    };
+    match to_bytes(alloc, &owned) {
+        Ok(bytes) => {
+            is_read_back(alloc, &owned, bytes.as_slice())
+                && leads_to_all(alloc, count, bytes.as_slice())
+        }
+        Err(_) => false,
+    }
 }
 
 /// Writes the table of a map's entries, where the caller claims `claimed` entries, with the given load factor.
@@ -156,8 +164,8 @@ fn claiming(
     write_claimed(claimed, &OwnedHashMap { map }, load_factor, &mut serializer)
 }
 
-/// Returns the bytes of the table of the numbers below `count` in their order, as a scan writes it.
-fn written_by<G: Scan>(alloc: Global, count: u32) -> Result<Vec<u8>, Error> {
+/// Returns whether a scan writes these bytes as the table of the numbers below `count` in their order.
+fn is_written_by<G: Scan>(alloc: Global, count: u32, bytes: &[u8]) -> bool {
     let mut serializer = memory(alloc);
     let hash = |number: &u32| -> u64 { hash_value::<u32, FxHasher64>(number) };
     serialize_from_iter_scan::<G, _, u32, _, _>(
@@ -166,26 +174,43 @@ fn written_by<G: Scan>(alloc: Global, count: u32) -> Result<Vec<u8>, Error> {
         (7, 8),
         hash,
         &mut serializer,
-    )?;
-    Ok(serializer.into_writer())
+    ).is_ok()
+        && serializer.into_writer().as_slice() == bytes
 }
 
 /// Returns the bytes of the same table, where the call does not name a scan.
-fn written(alloc: Global, count: u32) -> Result<Vec<u8>, Error> {
+fn written(alloc: Global, count: u32) -> Option<Vec<u8>> {
     let mut serializer = memory(alloc);
     let hash = |number: &u32| -> u64 { hash_value::<u32, FxHasher64>(number) };
-    serialize_from_iter::<_, u32, _, _>(0..count, count as usize, (7, 8), hash, &mut serializer)?;
-    Ok(serializer.into_writer())
+    match serialize_from_iter::<_, u32, _, _>(
+        0..count,
+        count as usize,
+        (7, 8),
+        hash,
+        &mut serializer,
+    ) {
+        Ok(_) => Some(serializer.into_writer()),
+        Err(_) => None,
+    }
+}
+
+/// Returns whether every scan writes the same bytes as that call.
+fn are_written_alike(alloc: Global, count: u32) -> bool {
+    match written(alloc, count) {
+        Some(bytes) => {
+            let bytes = bytes.as_slice();
+            is_written_by::<Group1>(alloc, count, bytes)
+                && is_written_by::<Group8>(alloc, count, bytes)
+                && is_written_by::<Group16>(alloc, count, bytes)
+        }
+        None => false,
+    }
 }
 
 #[test]
 fn every_scan_writes_the_same_bytes(rt: HostRuntime) {
-    let alloc = rt.alloc();
     for count in [0, 1, 3, 15, 16, 17, 40, 65, 215] {
-        let bytes = written(alloc, count);
-        assert!(rt; written_by::<Group1>(alloc, count) == bytes);
-        assert!(rt; written_by::<Group8>(alloc, count) == bytes);
-        assert!(rt; written_by::<Group16>(alloc, count) == bytes);
+        assert!(rt; are_written_alike(rt.alloc(), count));
     }
 }
 
@@ -193,70 +218,87 @@ fn every_scan_writes_the_same_bytes(rt: HostRuntime) {
 type Maps = OwnedHashMap<String, Numbers>;
 
 /// Returns an owned copy of a text.
-pub(crate) fn text(alloc: Global, from: &str) -> Result<String, Error> {
+pub(crate) fn text(alloc: Global, from: &str) -> Option<String> {
     match String::from_str(alloc, from) {
-        Ok(text) => Ok(text),
-        Err(_) => Err(Error::OutOfMemory),
+        Ok(text) => Some(text),
+        Err(_) => None,
     }
 }
 
 /// Returns the map from `x` to the map of one number, and from `y` to the empty map.
-fn maps(alloc: Global) -> Result<Maps, Error> {
+fn maps(alloc: Global) -> Option<Maps> {
     let mut map = HashMap::new(alloc);
     for (key, count) in [("x", 1), ("y", 0)] {
-        if map
-            .insert(text(alloc, key)?, decimals(alloc, count)?)
-            .is_err()
-        {
-            return Err(Error::OutOfMemory);
+        let key = text(alloc, key)?;
+        if map.insert(key, decimals(alloc, count)?).is_err() {
+            return None;
         }
     }
-    Ok(OwnedHashMap { map })
+    Some(OwnedHashMap { map })
 }
 
-/// Returns the number of entries of the map at a key of those maps, when they are read back, and the value of `0` in
-/// it.
-fn map_at(alloc: Global, key: &str) -> Result<Option<(usize, Option<u32>)>, Error> {
-    let bytes = to_bytes(alloc, &maps(alloc)?)?;
-    let read = from_bytes::<Maps>(alloc, &bytes)?;
-    match read.map.get(key) {
-        Some(inner) => Ok(Some((inner.map.len(), inner.map.get("0").copied()))),
-        None => Ok(None),
+/// Returns those maps as they are read back from their archive.
+fn maps_read_back(alloc: Global) -> Option<Maps> {
+    let owned = maps(alloc)?;
+    let Ok(bytes) = to_bytes(alloc, &owned) else {
+        return None;
+    };
+    match from_bytes::<Maps>(alloc, &bytes) {
+        Ok(read) => Some(read),
+        Err(_) => None,
+    }
+}
+
+/// Returns the number of entries of the map at a key of maps, and the value of `0` in it, if there are maps.
+fn map_at(maps: &Option<Maps>, key: &str) -> Option<Option<(usize, Option<u32>)>> {
+    let Some(maps) = maps else {
+        return None;
+    };
+    match maps.map.get(key) {
+        Some(inner) => Some(Some((inner.map.len(), inner.map.get("0").copied()))),
+        None => Some(None),
     }
 }
 
 #[test]
 fn maps_of_maps_are_read_back(rt: HostRuntime) {
-    assert!(rt; map_at(rt.alloc(), "x") == Ok(Some((1, Some(0)))));
-    assert!(rt; map_at(rt.alloc(), "y") == Ok(Some((0, None))));
-    assert!(rt; map_at(rt.alloc(), "z") == Ok(None));
+    let read = maps_read_back(rt.alloc());
+    assert!(rt;
+        map_at(&read, "x") == Some(Some((1, Some(0))))
+            && map_at(&read, "y") == Some(Some((0, None)))
+            && map_at(&read, "z") == Some(None)
+    );
 }
 
 /// Returns the set of the numbers below `count`.
-fn numbers(alloc: Global, count: u32) -> Result<OwnedHashSet<u32>, Error> {
+fn numbers(alloc: Global, count: u32) -> Option<OwnedHashSet<u32>> {
     let mut set = HashSet::new(alloc);
     for number in 0..count {
         if set.insert(number).is_err() {
-            return Err(Error::OutOfMemory);
+            return None;
         }
     }
-    Ok(OwnedHashSet { set })
+    Some(OwnedHashSet { set })
 }
 
 /// Returns whether that set is read back from its archive.
-fn is_set_read_back(alloc: Global, count: u32) -> Result<bool, Error> {
-    let owned = numbers(alloc, count)?;
-    let bytes = to_bytes(alloc, &owned)?;
-    let read = from_bytes::<OwnedHashSet<u32>>(alloc, &bytes)?;
-    Ok(read.set == owned.set)
+fn is_set_read_back(alloc: Global, count: u32) -> bool {
+    let Some(owned) = numbers(alloc, count) else {
+        return false;
+    };
+    let Ok(bytes) = to_bytes(alloc, &owned) else {
+        return false;
+    };
+    match from_bytes::<OwnedHashSet<u32>>(alloc, &bytes) {
+        Ok(read) => read.set == owned.set,
+        Err(_) => false,
+    }
 }
 
 #[test]
 fn maps_and_sets_of_many_sizes_are_read_back(rt: HostRuntime) {
     for count in [0, 1, 5, 6, 17, 35, 36, 112, 215, 2_000] {
-        assert!(rt; is_read_back(rt.alloc(), count) == Ok(true));
-        assert!(rt; leads_to_all(rt.alloc(), count) == Ok(true));
-        assert!(rt; is_set_read_back(rt.alloc(), count) == Ok(true));
+        assert!(rt; is_kept(rt.alloc(), count) && is_set_read_back(rt.alloc(), count));
     }
 }
 
@@ -274,28 +316,36 @@ fn write_keys<S: Writer + Allocator>(
 
 /// Returns the result of writing a set of `count` numbers where `claimed` keys are claimed.
 fn claiming_keys(alloc: Global, claimed: usize, count: u32) -> Result<HashTableResolver, Error> {
-    write_keys(claimed, &numbers(alloc, count)?, &mut memory(alloc))
+    match numbers(alloc, count) {
+        Some(owned) => write_keys(claimed, &owned, &mut memory(alloc)),
+        None => Err(Error::OutOfMemory),
+    }
 }
 
 #[test]
 fn wrong_claims_and_load_factors_are_refused(rt: HostRuntime) {
     let alloc = rt.alloc();
-    for load_factor in [(0, 8), (9, 8)] {
-        assert!(rt; claiming(alloc, 3, 3, load_factor) == Err(Error::InvalidLoadFactor));
-    }
-    assert!(rt; claiming(alloc, 3, 3, (8, 8)) == Ok(HashTableResolver::from_pos(Some(32))));
-    for (expected, actual) in [(3, 2), (0, 1), (1, 3)] {
-        assert!(rt;
-            claiming(alloc, expected, actual as u32, (7, 8))
-                == Err(Error::IteratorLengthMismatch { expected, actual })
-        );
-    }
-    assert!(rt; claiming_keys(alloc, 3, 3) == Ok(HashTableResolver::from_pos(Some(16))));
+    let refused = Err(Error::InvalidLoadFactor);
     assert!(rt;
-        claiming_keys(alloc, 2, 3)
-            == Err(IteratorLengthMismatch {
-                expected: 2,
-                actual: 3,
-            })
+        claiming(alloc, 3, 3, (0, 8)) == refused
+            && claiming(alloc, 3, 3, (9, 8)) == refused
+            && claiming(alloc, 3, 3, (8, 8)) == Ok(HashTableResolver::from_pos(Some(32)))
+    );
+    for (expected, actual) in [(3, 2), (0, 1), (1, 3)] {
+        let refused = Err(IteratorLengthMismatch { expected, actual });
+        assert!(rt; claiming(alloc, expected, actual as u32, (7, 8)) == refused);
+    }
+}
+
+#[test]
+fn wrong_claims_of_keys_are_refused(rt: HostRuntime) {
+    let alloc = rt.alloc();
+    let refused = IteratorLengthMismatch {
+        expected: 2,
+        actual: 3,
+    };
+    assert!(rt;
+        claiming_keys(alloc, 3, 3) == Ok(HashTableResolver::from_pos(Some(16)))
+            && claiming_keys(alloc, 2, 3) == Err(refused)
     );
 }

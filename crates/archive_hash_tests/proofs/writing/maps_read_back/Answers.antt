@@ -1,5 +1,5 @@
 use Rattle.std.proofs.Common.{[]}
-use Rattle.archive_hash_tests.proofs.writing.map_at.Goals as goal
+use Rattle.archive_hash_tests.proofs.writing.maps_read_back.Goals as goal
 
 pub from_bytes-requires : goal.from_bytes-requires
 from_bytes-requires c = record { named = ([], (tt, (tt, tt))) }
