@@ -16,7 +16,8 @@ use Rattle.cabinet_text_grammar.proofs.Stages.{IsLegalStage, items_of_stage}
 use Rattle.cabinet_text_grammar.proofs.LegalStages.{IsOther, take-other, legal-take}
 use Rattle.cabinet_text_grammar.specs.Steps.{TakesLine}
 
-ended-append : (xs ys : List (List ℕ)) (rest : List ℕ) → ended (xs ++ ys) ++ rest ≡ ended xs ++ (ended ys ++ rest)
+-- the bytes of the lines of two lists are those of the first and then those of the second
+pub ended-append : (xs ys : List (List ℕ)) (rest : List ℕ) → ended (xs ++ ys) ++ rest ≡ ended xs ++ (ended ys ++ rest)
 ended-append [] ys rest = refl
 ended-append (x ∷ xs) ys rest =
     append_assoc x (10 ∷ ended (xs ++ ys)) rest ∙ ap (λ w. x ++ 10 ∷ w) (ended-append xs ys rest) ∙ sym (append_assoc x (10 ∷ ended xs) (ended ys ++ rest))

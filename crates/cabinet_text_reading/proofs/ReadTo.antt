@@ -25,7 +25,7 @@ use Rattle.cabinet_text_grammar.proofs.Completed.{something_due}
 use Rattle.cabinet_text_grammar.proofs.Completing.{step_completed}
 use Rattle.cabinet_text_grammar.proofs.Pieces.{ended_piece}
 use Rattle.cabinet_text_grammar.proofs.Stages.{IsLegalStage, items_of_stage}
-use Rattle.cabinet_text_grammar.proofs.Steps.{HasRead, none_read, one_more, fault_inside}
+use Rattle.cabinet_text_grammar.proofs.Steps.{HasRead, ended-append, none_read, one_more, fault_inside}
 use Rattle.cabinet_text_reading.specs.Causes.{IsFirstOf}
 use Rattle.cabinet_text_reading.specs.Wholes.{table_in, reading_of, AreKnown, IsAtLine}
 use Rattle.cabinet_text_reading.specs.declared.wholes.Wholes.{Wholes}
@@ -51,11 +51,6 @@ ok_holds (Err e) P is h = absurd (false≢true is)
 
 -- ---- lines
 
-ended-parts : (xs ys : List (List ℕ)) (rest : List ℕ) → ended (xs ++ ys) ++ rest ≡ ended xs ++ (ended ys ++ rest)
-ended-parts [] ys rest = refl
-ended-parts (x ∷ xs) ys rest =
-    append_assoc x (10 ∷ ended (xs ++ ys)) rest ∙ ap (λ w. x ++ 10 ∷ w) (ended-parts xs ys rest) ∙ sym (append_assoc x (10 ∷ ended xs) (ended ys ++ rest))
-
 -- the lines of the tree that is read come after those of the wholes
 apart : (r : Reading) (rest : List ℕ) → ended (lines_of (items_of_reading r)) ++ rest ≡ front_of r.lacking r.table ++ (ended (lines_of (items_of_stack r.table r.stack)) ++ rest)
 apart r rest =
@@ -63,7 +58,7 @@ apart r rest =
     let inner = items_of_stack r.table r.stack in
     ap (λ is. ended (lines_of is) ++ rest) (sym (append_assoc before (items_of_table r.table) inner))
     ∙ ap (λ ls. ended ls ++ rest) (map-append spelled (before ++ items_of_table r.table) inner)
-    ∙ ended-parts (lines_of (before ++ items_of_table r.table)) (lines_of inner) rest
+    ∙ ended-append (lines_of (before ++ items_of_table r.table)) (lines_of inner) rest
 
 between : (front part after : List ℕ) → drop (length front) (take (length (front ++ part)) ((front ++ part) ++ after)) ≡ part
 between front part after = ap (drop (length front)) (take-append_seam (front ++ part) after) ∙ drop-append_seam front part
