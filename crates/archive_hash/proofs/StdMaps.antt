@@ -5,27 +5,13 @@ use Rattle.std.specs.HashMap as map
 use Rattle.std.specs.HashMap.{HashMap, PutsEntry, get}
 use Rattle.std.specs.HashSet as bag
 use Rattle.std.specs.HashSet.{HashSet, Updates, contains}
-use Rattle.std.specs.List.{list_any, IsDistinct}
+use Rattle.std.specs.List.{list_any}
 use Rattle.std.specs.List.Sorted.{IsPermutation}
 use Rattle.std.specs.Map.{keys_of, lookup}
 use Rattle.std.proofs.lemmas.Map.{keys-set_value}
 use Rattle.std.proofs.lemmas.List.Sorted.{IsPermutation-map}
 use Rattle.archive_hash.specs.Owned.{key_entries}
-use Rattle.archive_hash.specs.ReadBack.{WasPut}
 use Rattle.archive_hash.proofs.Inserted.{PutsKey}
-
-module _ {A B S : Type 0} (eq : A → A → Bool) (m n : HashMap A B S) (x : A × B) where
-  pub keys_put : (old : Option B) → PutsEntry eq m n x.0 x.1 old → PutsKey (keys_of m.entries) (keys_of n.entries) x.0 old
-  keys_put None h = IsPermutation-map (λ (e : A × B). e.0) (x ∷ m.entries) n.entries h
-  keys_put (Some y) h = ap keys_of h ∙ keys-set_value (eq x.0) m.entries x.1
-
-  -- an insertion that was not refused
-  pub map_put : {E : Type 0} (result : Result (Option B) E) → is_err result ≡ false → IfOk result (λ old. old ≡ get eq m x.0) → IfOk result (PutsEntry eq m n x.0 x.1) → OnOk result (map.Updates eq m n x.0 (Some x.1))
-      → IsDistinct eq (keys_of n.entries) → WasPut eq m n x
-  map_put (Ok old) done is put updates once = record { was = old; is = is; put = put; updates = updates; once = once }
-  map_put (Err e) done is put updates once = absurd cc
-
--- ---- sets
 
 -- a key and a value were put into entries, where the key had this value before
 pub record IsPut {A B : Type 0} (eq : A → A → Bool) (entries after : List (A × B)) (x : A × B) : Type 0 where
@@ -33,6 +19,19 @@ pub record IsPut {A B : Type 0} (eq : A → A → Bool) (entries after : List (A
   pub is : old ≡ lookup (eq x.0) entries
   pub put : PutsKey (keys_of entries) (keys_of after) x.0 old
   pub leads : (q : A) → lookup (eq q) after ≡ cond (eq x.0 q) (Some x.1) (lookup (eq q) entries)
+
+module _ {A B S : Type 0} (eq : A → A → Bool) (m n : HashMap A B S) (x : A × B) where
+  keys_put : (old : Option B) → PutsEntry eq m n x.0 x.1 old → PutsKey (keys_of m.entries) (keys_of n.entries) x.0 old
+  keys_put None h = IsPermutation-map (λ (e : A × B). e.0) (x ∷ m.entries) n.entries h
+  keys_put (Some y) h = ap keys_of h ∙ keys-set_value (eq x.0) m.entries x.1
+
+  -- an insertion that was not refused
+  pub map_put : {E : Type 0} (result : Result (Option B) E) → is_err result ≡ false → IfOk result (λ old. old ≡ get eq m x.0) → IfOk result (PutsEntry eq m n x.0 x.1) → OnOk result (map.Updates eq m n x.0 (Some x.1))
+      → IsPut eq m.entries n.entries x
+  map_put (Ok old) done is put updates = record { old = old; is = is; put = keys_put old put; leads = updates.0 }
+  map_put (Err e) done is put updates = absurd cc
+
+-- ---- sets
 
 -- the keys of a set as entries
 pub keys_back : {A : Type 0} (ks : List A) → keys_of (key_entries ks) ≡ ks

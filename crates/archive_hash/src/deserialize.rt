@@ -3,10 +3,10 @@ ghost use Rattle.std.specs.Prelude.{length, IfOk};
 ghost use Rattle.archive_shape.specs.ShapeLayout.Shape.Shape.{table};
 ghost use Rattle.archive_forms_values.specs.Tuples.{tuple2};
 ghost use Rattle.archive_forms_values.specs.Parts.{HasValue, both};
-ghost use Rattle.archive_forms.specs.Deserializing.{Deserializes, DeserializesBy, IsReadAt};
+ghost use Rattle.archive_forms.specs.Deserializing.{Deserializes, DeserializesBy};
 ghost use Rattle.archive_forms.specs.Keeping.{both_of};
 ghost use Rattle.archive_forms.specs.Steps.{StepTakes, StepReads};
-ghost use Rattle.archive_hash.specs.ReadBack.{InsertsRead, reads_map};
+ghost use Rattle.archive_hash.specs.ReadBack.{reads_map};
 ghost use Rattle.archive_hash_walking.specs.Maps.{HasMap};
 
 use crate::OwnedHashMap;
@@ -18,52 +18,6 @@ use std::alloc::Global;
 use std::collections::HashMap;
 use std::hash::Hash;
 use std::marker::PhantomData;
-
-/// Reads the key and the value at positions by their steps, and inserts them into a map.
-fn insert_read<
-    K: Archive + Eq + Hash + Drop,
-    V: Archive + Drop,
-    A: ReadBack<K>,
-    B: ReadBack<V>,
-    D: Deserializer,
-    F: Fn(&mut D, usize) -> Result<(K, PhantomData<K::Archived>), Error>,
-    G: Fn(&mut D, usize) -> Result<(V, PhantomData<V::Archived>), Error>,
->(
-    map: &mut HashMap<K, V>,
-    bytes: &[u8],
-    key: usize,
-    value: usize,
-    deserializer: &mut D,
-    read_key: &F,
-    read_value: &G,
-) -> Result<(), Error>
-    requires has_key { HasValue A.shape A.knows bytes.now key }
-    requires has_value { HasValue B.shape B.knows bytes.now value }
-    requires kept { D.is_of deserializer.old bytes.now }
-    requires takes_key { StepTakes F.Fn read_key.now A.shape A.knows D.is_of bytes.now (length bytes.now) }
-    requires reads_key { StepReads F.Fn read_key.now A.shape A.knows D.is_of bytes.now (λ q. q.0) A.reads }
-    requires takes_value { StepTakes G.Fn read_value.now B.shape B.knows D.is_of bytes.now (length bytes.now) }
-    requires reads_value { StepReads G.Fn read_value.now B.shape B.knows D.is_of bytes.now (λ q. q.0) B.reads }
-    ensures value { InsertsRead K.eq (IsReadAt A.reads A.shape A.knows bytes.entry.now key)
-        (IsReadAt B.reads B.shape B.knows bytes.entry.now value) map.old map.new result }
-    ensures keeps { IfOk result (λ _. D.is_of deserializer.new bytes.entry.now) }
-{
-    let key = match read_key(deserializer, key) {
-        Ok(done) => done.0,
-        Err(e) => return Err(e),
-    };
-    match read_value(deserializer, value) {
-        Ok(done) => {
-            let value = done.0;
-            if map.insert(key, value).is_err() {
-                Err(Error::OutOfMemory)
-            } else {
-                Ok(())
-            }
-        }
-        Err(e) => Err(e),
-    }
-}
 
 /// Reads a map back, whose keys are read by `read_key` and whose values by `read_value`. Its entries are inserted by
 /// ascending place. The archive of a map that was checked may have equal keys. The map then has the first of them, with
@@ -100,17 +54,16 @@ pub fn deserialize_hash_map_each<
     let mut map = HashMap::new(alloc);
     let mut entries = ArchivedHashMap::iter(this);
     while let Some((key, value)) = entries.next() {
-        match insert_read::<K, V, A, B, D, F, G>(
-            &mut map,
-            this.bytes,
-            key.pos,
-            value.pos,
-            deserializer,
-            &read_key,
-            &read_value,
-        ) {
-            Ok(()) => {}
+        let key = match read_key(deserializer, key.pos) {
+            Ok(done) => done.0,
             Err(e) => return Err(e),
+        };
+        let value = match read_value(deserializer, value.pos) {
+            Ok(done) => done.0,
+            Err(e) => return Err(e),
+        };
+        if map.insert(key, value).is_err() {
+            return Err(Error::OutOfMemory);
         }
     }
     Ok(OwnedHashMap { map })

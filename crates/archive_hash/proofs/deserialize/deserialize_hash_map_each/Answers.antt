@@ -1,7 +1,7 @@
 use Rattle.std.proofs.Common.{rules, ◌≡◌, ◌∙◌, [], map, sym, ap}
 use Rattle.archive_hash_maps.specs.HashWalking.Maps.{entry_at}
 use Rattle.archive_hash.proofs.Items.{next_position, none_left, next_has, reading_begun, next_read, reading_ended}
-use Rattle.archive_hash.proofs.StdMaps.{keys_put}
+use Rattle.archive_hash.proofs.StdMaps.{map_put}
 use Rattle.archive_hash.proofs.deserialize.deserialize_hash_map_each.Goals as goal
 
 pub loop-key-init : goal.loop-key-init
@@ -9,42 +9,45 @@ loop-key-init g c =
     let b = reading_begun g.A.ReadBack.reads g.B.ReadBack.reads g.A.Portable.shape g.B.Portable.shape g.A.Portable.knows g.B.Portable.knows c.args.this.bytes.now g.met.K.Eq.laws c.args.this.pos c.new-map.result.entries c.requires.there c.new-map.ensures.empty c.new-map.ensures.unique in
     (b.0, c.iter-entries.ensures.entries b.1.0 b.1.1 ∙ ap (map (entry_at c.args.this.bytes g.A.Portable.shape g.B.Portable.shape)) (sym b.1.2), b.2, c.requires.kept)
 
-pub insert_read-requires-clause-has_key : goal.insert_read-requires-clause-has_key
-insert_read-requires-clause-has_key g c =
+pub read_key-requires : goal.read_key-requires
+read_key-requires g c =
     let i = c.loop-key.invariant in
     let n = next_position g.A.Portable.shape g.B.Portable.shape c.args.this.bytes i.0 c.in-Some.key c.in-Some.value c.loop-key.entries _ i.1 c.in-Some.ensures.steps in
     let has = next_has g.A.ReadBack.reads g.B.ReadBack.reads g.A.Portable.shape g.B.Portable.shape g.A.Portable.knows g.B.Portable.knows c.args.this.bytes.now g.K.PartialEq.eq c.args.this.pos c.args.this.bytes i.0 c.in-Some.key c.in-Some.value _ c.loop-key.map.entries i.2 n in
-    has.0
+    c.requires.takes_key _ _ has.0.held.own_within has.0 i.3
 
-pub insert_read-requires-clause-has_value : goal.insert_read-requires-clause-has_value
-insert_read-requires-clause-has_value g c =
+pub returns-in-Err-clause-value : goal.returns-in-Err-clause-value
+returns-in-Err-clause-value g c =
     let i = c.loop-key.invariant in
     let n = next_position g.A.Portable.shape g.B.Portable.shape c.args.this.bytes i.0 c.in-Some.key c.in-Some.value c.loop-key.entries _ i.1 c.in-Some.ensures.steps in
     let has = next_has g.A.ReadBack.reads g.B.ReadBack.reads g.A.Portable.shape g.B.Portable.shape g.A.Portable.knows g.B.Portable.knows c.args.this.bytes.now g.K.PartialEq.eq c.args.this.pos c.args.this.bytes i.0 c.in-Some.key c.in-Some.value _ c.loop-key.map.entries i.2 n in
-    has.1
+    (c.requires.reads_key _ _ _ _ has.0 i.3 c.in-Err.ensures).0
 
-pub insert_read-requires-clause-takes_key : goal.insert_read-requires-clause-takes_key
-insert_read-requires-clause-takes_key g c = c.requires.takes_key
+pub read_value-requires : goal.read_value-requires
+read_value-requires g c =
+    let i = c.loop-key.invariant in
+    let n = next_position g.A.Portable.shape g.B.Portable.shape c.args.this.bytes i.0 c.in-Some.key c.in-Some.value c.loop-key.entries _ i.1 c.in-Some.ensures.steps in
+    let has = next_has g.A.ReadBack.reads g.B.ReadBack.reads g.A.Portable.shape g.B.Portable.shape g.A.Portable.knows g.B.Portable.knows c.args.this.bytes.now g.K.PartialEq.eq c.args.this.pos c.args.this.bytes i.0 c.in-Some.key c.in-Some.value _ c.loop-key.map.entries i.2 n in
+    let key = c.requires.reads_key _ _ _ _ has.0 i.3 c.in-Ok.ensures in
+    c.requires.takes_value _ _ has.1.held.own_within has.1 key.1
 
-pub insert_read-requires-clause-reads_key : goal.insert_read-requires-clause-reads_key
-insert_read-requires-clause-reads_key g c = c.requires.reads_key
-
-pub insert_read-requires-clause-takes_value : goal.insert_read-requires-clause-takes_value
-insert_read-requires-clause-takes_value g c = c.requires.takes_value
-
-pub insert_read-requires-clause-reads_value : goal.insert_read-requires-clause-reads_value
-insert_read-requires-clause-reads_value g c = c.requires.reads_value
-
-pub insert_read-requires-clause-kept : goal.insert_read-requires-clause-kept
-insert_read-requires-clause-kept g c = c.loop-key.invariant.3
+pub returns-in-Err-read_value-clause-value : goal.returns-in-Err-read_value-clause-value
+returns-in-Err-read_value-clause-value g c =
+    let i = c.loop-key.invariant in
+    let n = next_position g.A.Portable.shape g.B.Portable.shape c.args.this.bytes i.0 c.in-Some.key c.in-Some.value c.loop-key.entries _ i.1 c.in-Some.ensures.steps in
+    let has = next_has g.A.ReadBack.reads g.B.ReadBack.reads g.A.Portable.shape g.B.Portable.shape g.A.Portable.knows g.B.Portable.knows c.args.this.bytes.now g.K.PartialEq.eq c.args.this.pos c.args.this.bytes i.0 c.in-Some.key c.in-Some.value _ c.loop-key.map.entries i.2 n in
+    let key = c.requires.reads_key _ _ _ _ has.0 i.3 c.in-Ok.ensures in
+    (c.requires.reads_value _ _ _ _ has.1 key.1 c.in-Err-read_value.ensures).0
 
 pub loop-key-preserved : goal.loop-key-preserved
 loop-key-preserved g c =
     let i = c.loop-key.invariant in
     let n = next_position g.A.Portable.shape g.B.Portable.shape c.args.this.bytes i.0 c.in-Some.key c.in-Some.value c.loop-key.entries _ i.1 c.in-Some.ensures.steps in
-    let x = c.in-Ok.ensures.value in
-    let put = keys_put g.K.PartialEq.eq c.loop-key.map c.insert_read.new.map x.0 x.3.was x.3.put in
-    (n.more, n.rest_is, next_read g.A.ReadBack.reads g.B.ReadBack.reads g.A.Portable.shape g.B.Portable.shape g.A.Portable.knows g.B.Portable.knows c.args.this.bytes.now g.met.K.Eq.laws c.args.this.pos c.args.this.bytes i.0 c.in-Some.key c.in-Some.value _ c.loop-key.map.entries c.insert_read.new.map.entries x.0 x.3.was i.2 n x.1 x.2 x.3.is put x.3.updates.0 x.3.once, c.in-Ok.ensures.keeps)
+    let has = next_has g.A.ReadBack.reads g.B.ReadBack.reads g.A.Portable.shape g.B.Portable.shape g.A.Portable.knows g.B.Portable.knows c.args.this.bytes.now g.K.PartialEq.eq c.args.this.pos c.args.this.bytes i.0 c.in-Some.key c.in-Some.value _ c.loop-key.map.entries i.2 n in
+    let key = c.requires.reads_key _ _ _ _ has.0 i.3 c.in-Ok.ensures in
+    let value = c.requires.reads_value _ _ _ _ has.1 key.1 c.in-Ok-read_value.ensures in
+    let put = map_put g.K.PartialEq.eq c.loop-key.map c.insert.new.self (c.in-Ok.done.0, c.in-Ok-read_value.done.0) c.insert.result (search rules) c.insert.ensures.old c.insert.ensures.entries c.insert.ensures.updates in
+    (n.more, n.rest_is, next_read g.A.ReadBack.reads g.B.ReadBack.reads g.A.Portable.shape g.B.Portable.shape g.A.Portable.knows g.B.Portable.knows c.args.this.bytes.now g.met.K.Eq.laws c.args.this.pos c.args.this.bytes i.0 c.in-Some.key c.in-Some.value _ c.loop-key.map.entries c.insert.new.self.entries (c.in-Ok.done.0, c.in-Ok-read_value.done.0) put.old i.2 n key.0 value.0 put.is put.put put.leads c.insert.ensures.unique, value.1)
 
 pub returns-clause-value : goal.returns-clause-value
 returns-clause-value g c =
