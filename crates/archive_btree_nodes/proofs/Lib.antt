@@ -1,3 +1,4 @@
+pub mod BtreeLayout
 pub mod Counting
 pub mod Descending
 pub mod Entered
@@ -21,4 +22,3 @@ pub mod Trees
 pub mod Visited
 pub mod Walked
 pub mod Woven
-pub use Rattle.archive_btree_layout.proofs as BtreeLayout

@@ -1,3 +1,4 @@
+pub mod BtreeLayout
 pub mod Counted
 pub mod Counts
 pub mod Divided
@@ -24,4 +25,3 @@ pub mod Trees
 pub mod Weaving
 pub mod Whole
 pub mod Written
-pub use Rattle.archive_btree_layout.proofs as BtreeLayout

@@ -1,3 +1,4 @@
+pub mod BtreeLayout
 pub mod Laws
 pub mod Laying
 pub mod Maps
@@ -7,4 +8,3 @@ pub mod Parted
 pub mod Sample
 pub mod Shown
 pub mod Written
-pub use Rattle.archive_btree_layout.specs as BtreeLayout

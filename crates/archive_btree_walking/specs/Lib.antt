@@ -1,7 +1,7 @@
+pub mod BtreeLayout
 pub mod Cursors
 pub mod Lookups
 pub mod Maps
 pub mod Ranges
 pub mod Refs
 pub mod Walks
-pub use Rattle.archive_btree_nodes.specs.BtreeLayout as BtreeLayout

@@ -1,7 +1,7 @@
 pub mod Access
 pub mod AccessLaws
 pub mod Depth
+pub mod FormsValues
 pub mod NestingLaws
 pub mod Subtrees
 pub mod Visits
-pub use Rattle.archive_forms_values.specs as FormsValues

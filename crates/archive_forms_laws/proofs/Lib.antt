@@ -22,6 +22,7 @@ pub mod Progress
 pub mod Regions
 pub mod Resolved
 pub mod Samples
+pub mod ShapeCanonical
 pub mod Shared
 pub mod Sizes
 pub mod SpellingResults
@@ -30,5 +31,3 @@ pub mod TextContent
 pub mod Texts
 pub mod Views
 pub mod Written
-pub use Rattle.archive_shape.proofs as ArchiveShape
-pub use Rattle.archive_shape_canonical.proofs as ShapeCanonical

@@ -1,3 +1,4 @@
+pub mod ArchiveShape
 pub mod Arrays
 pub mod Fields
 pub mod Forms
@@ -13,6 +14,8 @@ pub mod Regions
 pub mod Results
 pub mod Sample
 pub mod Serializing
+pub mod ShapeCanonical
+pub mod ShapeWriting
 pub mod Shared
 pub mod Spelling
 pub mod SpellingLaws
@@ -23,6 +26,3 @@ pub mod Text
 pub mod Texts
 pub mod Views
 pub mod Written
-pub use Rattle.archive_shape.specs as ArchiveShape
-pub use Rattle.archive_shape_canonical.specs as ShapeCanonical
-pub use Rattle.archive_shape.specs.ShapeWriting as ShapeWriting

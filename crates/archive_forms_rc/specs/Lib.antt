@@ -1,7 +1,7 @@
 pub mod Compared
 pub mod Counted
+pub mod FormsWriting
 pub mod Pointers
 pub mod Visits
 pub mod WeakPointers
 pub mod WeakResolvers
-pub use Rattle.archive_forms_writing.specs as FormsWriting

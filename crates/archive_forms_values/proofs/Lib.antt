@@ -1,4 +1,5 @@
 pub mod Accepted
+pub mod ArchiveShape
 pub mod Arrays
 pub mod Checked
 pub mod Chosen
@@ -6,6 +7,7 @@ pub mod Claimed
 pub mod Claiming
 pub mod Claims
 pub mod Contents
+pub mod FormsLaws
 pub mod Held
 pub mod InOrder
 pub mod Inside
@@ -19,12 +21,10 @@ pub mod Placed
 pub mod Pointed
 pub mod Rooted
 pub mod SameContent
+pub mod ShapeCanonical
+pub mod ShapeLayout
 pub mod Slices
 pub mod Stands
 pub mod Tagged
 pub mod Targets
 pub mod Texts
-pub use Rattle.archive_forms_laws.proofs as FormsLaws
-pub use Rattle.archive_shape.proofs as ArchiveShape
-pub use Rattle.archive_forms_laws.proofs.ShapeCanonical as ShapeCanonical
-pub use Rattle.archive_shape_layout.proofs as ShapeLayout

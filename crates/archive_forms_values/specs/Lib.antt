@@ -1,13 +1,13 @@
+pub mod ArchiveShape
 pub mod Arrays
 pub mod Boxes
 pub mod Claims
 pub mod Fields
+pub mod FormsLaws
 pub mod Loans
 pub mod Parts
 pub mod Repr
+pub mod ShapeCanonical
+pub mod ShapeLayout
+pub mod ShapeWriting
 pub mod Tuples
-pub use Rattle.archive_forms_laws.specs as FormsLaws
-pub use Rattle.archive_shape.specs as ArchiveShape
-pub use Rattle.archive_forms_laws.specs.ShapeCanonical as ShapeCanonical
-pub use Rattle.archive_shape_layout.specs as ShapeLayout
-pub use Rattle.archive_shape_writing.specs as ShapeWriting

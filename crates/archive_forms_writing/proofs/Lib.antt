@@ -1,6 +1,8 @@
 pub mod Arrays
 pub mod Batches
 pub mod Behind
+pub mod FormsLaws
+pub mod FormsValues
 pub mod Joining
 pub mod Laying
 pub mod Loops
@@ -10,5 +12,3 @@ pub mod Results
 pub mod Root
 pub mod Structs
 pub mod Whole
-pub use Rattle.archive_forms_laws.proofs as FormsLaws
-pub use Rattle.archive_forms_values.proofs as FormsValues

@@ -1,3 +1,3 @@
 pub mod Buckets
+pub mod FormsValues
 pub mod Heads
-pub use Rattle.archive_forms_values.specs as FormsValues

@@ -15,6 +15,7 @@ pub mod MarkLemmas
 pub mod PlaceLemmas
 pub mod Powers
 pub mod Reached
+pub mod ShapeCanonical
 pub mod Small
 pub mod StopLemmas
 pub mod StrideLemmas
@@ -22,4 +23,3 @@ pub mod Triangles
 pub mod Walks
 pub mod WordLemmas
 pub mod Wrapping
-pub use Rattle.archive_shape_canonical.proofs as ShapeCanonical

@@ -1,7 +1,9 @@
 pub mod Faithful
 pub mod Filled
+pub mod Hash
 pub mod InOrder
 pub mod IndexChecks
+pub mod IndexSpelling
 pub mod LookedUp
 pub mod Pairs
 pub mod Places
@@ -12,5 +14,3 @@ pub mod Resolved
 pub mod Standing
 pub mod TableAndEntries
 pub mod Walk
-pub use Rattle.archive_hash.proofs as Hash
-pub use Rattle.archive_index_spelling.proofs as IndexSpelling

@@ -16,10 +16,10 @@ pub mod Questions
 pub mod Ranges
 pub mod Refused
 pub mod Sealed
+pub mod ShapeLayout
 pub mod Shared
 pub mod Spared
 pub mod Texts
 pub mod Wholes
 pub mod Words
 pub mod Written
-pub use Rattle.archive_shape_layout.proofs as ShapeLayout

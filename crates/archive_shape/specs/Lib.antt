@@ -12,7 +12,7 @@ pub mod Pooling
 pub mod Questions
 pub mod Range
 pub mod Sealing
+pub mod ShapeLayout
+pub mod ShapeWriting
 pub mod Sharing
 pub mod Steps
-pub use Rattle.archive_shape_layout.specs as ShapeLayout
-pub use Rattle.archive_shape_writing.specs as ShapeWriting

@@ -1,1 +1,1 @@
-pub use Rattle.cabinet.proofs as Cabinet
+pub mod Cabinet

@@ -1,1 +1,1 @@
-pub use Rattle.cabinet.specs as Cabinet
+pub mod Cabinet

@@ -1,3 +1,5 @@
+pub mod Archives
+pub mod Documents
 pub mod Editing
 pub mod Failures
 pub mod Headline
@@ -7,6 +9,4 @@ pub mod RefusalsLaws
 pub mod Reporting
 pub mod Session
 pub mod Steps
-pub use Rattle.cabinet_archives.specs as Archives
-pub use Rattle.cabinet_archives.specs.Documents as Documents
-pub use Rattle.cabinet_text_grammar.specs as TextGrammar
+pub mod TextGrammar

@@ -4,6 +4,7 @@ mod Audited
 mod Auditing
 mod Buckets
 mod Costs
+pub mod Documents
 mod Entries
 mod Exact
 mod HashedAuditing
@@ -56,4 +57,3 @@ mod Texts
 mod Walked
 mod Ways
 mod Within
-pub use Rattle.cabinet_archived.proofs.Documents as Documents

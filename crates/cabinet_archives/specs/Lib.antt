@@ -1,4 +1,5 @@
 pub mod Cost
+pub mod Documents
 pub mod Failing
 pub mod Found
 pub mod Hashed
@@ -13,4 +14,3 @@ pub mod Saving
 pub mod Setting
 pub mod Sound
 pub mod Way
-pub use Rattle.cabinet_archived.specs.Documents as Documents

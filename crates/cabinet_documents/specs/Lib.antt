@@ -1,4 +1,5 @@
 pub mod Accepted
+pub mod ArchiveShape
 pub mod Audit
 pub mod Denotes
 pub mod Done
@@ -9,11 +10,10 @@ pub mod NoWholes
 pub mod Node
 pub mod Order
 pub mod OwnBytes
+pub mod ShapeCanonical
+pub mod ShapeLayout
 pub mod Spelling
 pub mod SpellingLaws
 pub mod Table
+pub mod TextGrammar
 pub mod Walk
-pub use Rattle.archive_forms_values.specs.ArchiveShape as ArchiveShape
-pub use Rattle.archive_forms_values.specs.ShapeCanonical as ShapeCanonical
-pub use Rattle.archive_forms_values.specs.ShapeLayout as ShapeLayout
-pub use Rattle.cabinet_text_grammar.specs as TextGrammar

@@ -10,8 +10,8 @@ pub mod Repeats
 pub mod Seen
 pub mod TableFaults
 pub mod Tables
+pub mod TextGrammar
 pub mod Texts
 pub mod Twice
 pub mod Views
 pub mod Walks
-pub use Rattle.cabinet_text_grammar.proofs as TextGrammar

@@ -6,5 +6,5 @@ pub mod Kinds
 pub mod Lines
 pub mod Order
 pub mod Outcomes
+pub mod TextGrammar
 pub mod View
-pub use Rattle.cabinet_text_grammar.specs as TextGrammar

@@ -1,0 +1,3 @@
+-- What is cited of archive_btree_spelling by way of this crate.
+pub use Rattle.archive_btree_spelling.proofs.ItemPlaces as ItemPlaces
+pub use Rattle.archive_btree_spelling.proofs.PairsStand as PairsStand
