@@ -64,7 +64,7 @@ if ! (cd crates/cab && rt run -- build "$root/examples/first/text" "$folder/prov
 fi
 grep '^logic=proved' "$folder/log" | tail -n 1 | cut -d ' ' -f 1-2 || echo 'proved before, and nothing has changed since'
 
-for name in first list settings catalogue cache; do
+for name in first list settings catalogue publisher cache; do
     built proved_cab "$name"
     answered proved_cab "$name"
 done

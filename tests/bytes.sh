@@ -11,6 +11,11 @@ some=0400000001000000e0ffffff000000000000000000000000
 # a list of it
 one=05000000e4ffffff01000000000000000000000000000000
 none=040000000000000000000000000000000000000000000000
+# a whole of it, and of the node that ends 24 bytes before it begins
+whole=09000000e4ffffff00000000000000000000000000000000
+again=09000000ccffffff00000000000000000000000000000000
+# the list of the whole 5 twice: one node, to which both elements lead
+wholes=$five$whole$again$two
 # a list of two shared texts, `hello world!` twice, and the empty text twice
 twice=68656c6c6f20776f726c64210000000003000000ecffffff0c000000000000000000000000000000
 twice=${twice}03000000d4ffffff0c00000000000000000000000000000005000000ccffffff02000000000000000000000000000000
@@ -139,6 +144,16 @@ table() {
 hashed() {
     echo "07000000$(word "$1")$(word "$2")$(word "$3")$(zeros 8)"
 }
+
+# the list of the whole 1 twice, by itself and as it lies in longer archives
+one_twice=$(number 1)$whole$again$two
+
+# the whole 5 as a value in an ordered, a hashed and a kept map, each beside a number under b: the leaf from 24 on, the table of
+# the hashed map from 200 on, that of the kept map from 328 on and its entries from 376 on, the list's elements from 440 on
+in_maps=$five$(with "$(leaf a 0 b 6)" 48 "09000000b4ffffff$(zeros 16)")$(table a "090000002cffffff$(zeros 16)" b "$(number 7)")00
+in_maps=${in_maps}01000000$(zeros 8)ff5355ff5355$(printf 'ff%.0s' {1..25})$(zeros 5)
+in_maps=$in_maps$(key b)$(number 8)$(key a)090000005cfeffff$(zeros 16)
+in_maps=$in_maps$(map -420 2)$(hashed -172 2 3)0800000068ffffff020000000300000080ffffff$(zeros 4)05000000b4ffffff03000000$(zeros 12)
 
 # the ordered map from coffee to 300 and from tea to 250, and that from a to f to the numbers from 1 to 6
 coffee=$(leaf coffee 300 tea 250)060000004cffffff02000000000000000000000000000000

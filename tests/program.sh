@@ -39,22 +39,6 @@ refuses() {
     finish
 }
 
-# unsaved NAME TEXT: a text whose document has wholes, which cab build does not save
-unsaved() {
-    begin "not saved: $1"
-    text "$2"
-    run build text new.cab
-    prints ''
-    ends 1 'cab: save: Kind\n'
-    leaves text
-    archive "${five}bbbb"
-    run build text a.cab
-    ends 1 'cab: save: Kind\n'
-    holds a.cab "${five}bbbb"
-    leaves a.cab text
-    finish
-}
-
 # answers_in HEX NAME LINES ANSWERS HEX: the answers in an archive, which then holds other bytes
 answers_in() {
     begin "$2"
@@ -70,6 +54,26 @@ answers_in() {
 # answers NAME LINES ANSWERS HEX: the answers in the archive of int 5
 answers() {
     answers_in "$five" "$@"
+}
+
+# is_shown: whether a.cab is shown as its text
+is_shown() {
+    show a.cab
+    cmp -s output text || differs 'another text is shown'
+    ends 0 ''
+}
+
+# unopened HEX CAUSE NAME: bytes that are refused
+unopened() {
+    begin "not opened: $3"
+    archive "$1"
+    lines "keys\nset int 6 'a\n"
+    run run a.cab
+    prints ''
+    ends 1 "cab: open: $2\n"
+    holds a.cab "$1"
+    leaves a.cab
+    finish
 }
 
 # misused WORD..: words that are not a command of cab
@@ -131,6 +135,23 @@ builds "list 2\nlist 1\nshared 'hello\\sworld!\nshared 'hello\\sworld!" \
 builds "list 2\nshared 'a\ntext 'a" \
     610000000000000003000000f4ffffff010000000000000000000000000000000200000061ffffffffffffff00000000000000000000000005000000ccffffff02000000000000000000000000000000
 
+builds 'wholes 1\nint 5\nwhole 0' "$five$whole"
+# once, however many places it has
+builds 'wholes 1\nint 5\nlist 2\nwhole 0\nwhole 0' "$wholes"
+builds 'wholes 1\nint 5\nlist 3\nwhole 0\nint 5\nwhole 0' \
+    "$five$whole${five}09000000b4ffffff$(zeros 16)05000000b4ffffff03000000$(zeros 12)"
+builds 'wholes 2\nint 1\nlist 2\nwhole 0\nwhole 0\nlist 3\nwhole 1\nwhole 0\nwhole 1' \
+    "${one_twice}${whole}0900000084ffffff$(zeros 16)09000000b4ffffff$(zeros 16)05000000b4ffffff03000000$(zeros 12)"
+builds 'wholes 2\nint 1\nlist 2\nwhole 0\nwhole 0\nsome\nwhole 1' "$one_twice$whole$some"
+builds "wholes 2\nint 1\nlist 2\nwhole 0\nwhole 0\nordered 1\n'a\nsome\nwhole 1" \
+    "$one_twice$whole$(with "$(leaf a 0)" 48 "0400000001000000b0ffffff$(zeros 12)")$(map -180 1)"
+# by ascending place, of which the second key has the lower one
+builds "wholes 2\nint 1\nint 2\nhashed 2\n'a\nwhole 0\n'b\nwhole 1" \
+    "$(number 2)$(number 1)$(table a "09000000dcffffff$(zeros 16)" b "09000000a4ffffff$(zeros 16)")00$(hashed -36 2 3)"
+# a shared text and a whole of it
+builds "wholes 1\nshared 'a\nlist 3\nwhole 0\nshared 'a\nwhole 0" \
+    "610000000000000003000000f4ffffff01000000$(zeros 12)${whole}03000000c4ffffff01000000$(zeros 12)09000000b4ffffff$(zeros 16)05000000b4ffffff03000000$(zeros 12)"
+
 refuses 'int 05' 'int 05\n' 1 BadNumber
 refuses 'int -0' 'int -0\n' 1 BadNumber
 refuses 'int 9223372036854775808' 'int 9223372036854775808\n' 1 BadNumber
@@ -174,10 +195,47 @@ refuses 'wholes that are numbered otherwise' 'wholes 2\nint 1\nint 2\nlist 2\nwh
 refuses 'wholes on a later line' 'list 1\nwholes 1\n' 2 UnknownHead
 refuses 'no wholes' 'wholes 0\nint 5\n' 1 BadNumber
 
-unsaved 'a whole at the root' 'wholes 1\nint 5\nwhole 0\n'
-unsaved 'a whole in two elements' 'wholes 1\nint 5\nlist 2\nwhole 0\nwhole 0\n'
-unsaved 'a whole in a whole' 'wholes 2\nint 1\nlist 2\nwhole 0\nwhole 0\nsome\nwhole 1\n'
-unsaved 'a whole in a whole, in a map' "wholes 2\nint 1\nlist 2\nwhole 0\nwhole 0\nordered 1\n'a\nsome\nwhole 1\n"
+maps="ordered 2\\n'a\\nwhole 0\\n'b\\nint 6\\nhashed 2\\n'a\\nwhole 0\\n'b\\nint 7\\nkept 2\\n'b\\nint 8\\n'a\\nwhole 0"
+builds "wholes 1\\nint 5\\nlist 3\\n$maps" "$in_maps"
+answers_in "$in_maps" 'edits in maps that share a whole' \
+    "get #0 'a ?\nset int 9 #0 'b\nset int 10 #1 'b\nset int 11 #2 'b\nset int 6 #0 'a ?\nset int 6 #1 'a ?\nset int 6 #2 'a ?\nget #2 'a ?\n" \
+    'int 5\nok\nok\nok\nrefused\nrefused\nrefused\nint 5\n' "$(with "$in_maps" 104 09 248 0a 392 0b)"
+# what the edits leave is what building writes of the document that they leave
+edited=${maps/int 6/int 9}
+edited=${edited/int 7/int 10}
+builds "wholes 1\\nint 5\\nlist 3\\n${edited/int 8/int 11}" "$(with "$in_maps" 104 09 248 0a 392 0b)"
+
+begin '64 wholes, one in the other'
+text "wholes 64\nint 1\n$(printf 'whole %d\\n' {0..63})"
+run build text a.cab
+prints 'built 1560\n'
+ends 0 ''
+holds a.cab "$(number 1)$(printf "$whole%.0s" {1..64})"
+lines "get$(printf ' ?%.0s' {1..64})\nset int 6$(printf ' ?%.0s' {1..64})\nget$(printf ' ?%.0s' {1..63})\nget$(printf ' ?%.0s' {1..65})\n"
+run run a.cab
+prints 'int 1\nrefused\nwhole\nmissing\n'
+ends 0 ''
+is_shown
+finish
+
+# each whole is a list of the one before it twice, so the document has 2^30 leaves if each use is counted
+begin 'thirty doubled wholes'
+{
+    printf 'wholes 30\nint 1\n'
+    for number in {0..29}; do
+        printf 'list 2\nwhole %d\nwhole %d\n' "$number" "$number"
+    done
+} > text
+run build text a.cab
+prints 'built 2184\n'
+ends 0 ''
+holds a.cab "$(number 1)$(printf "$whole$again$two%.0s" {1..30})"
+lines "get$(printf ' #0 ?%.0s' {1..30})\nget$(printf ' #1 ?%.0s' {1..30})\nset int 2$(printf ' #0 ?%.0s' {1..30})\nget$(printf ' #1 ?%.0s' {1..29})\n"
+run run a.cab
+prints 'int 1\nint 1\nrefused\nlist 2\n'
+ends 0 ''
+is_shown
+finish
 
 begin '64 options, one in the other'
 text "$(printf 'some\\n%.0s' {1..64})int 5\n"
@@ -345,6 +403,15 @@ answers_in "$empties" 'empty shared texts' "get #0\nget #1\nset text ' #1\n" "sh
 answers_in 03000000fcffffff00000000000000000000000000000000 'an empty shared text where the root begins' "get\n" "shared '\n" \
     03000000fcffffff00000000000000000000000000000000
 
+answers_in "$wholes" 'a whole in two elements' \
+    "get\nget #0\nget #1 ?\nset int 6 #0 ?\nset int 6 #0\nget #0 'a\nget #0 ? ?\nget #2\nkeys #0\nkeys #0 ?\n" \
+    'list 2\nwhole\nint 5\nrefused\nrefused\nmissing\nmissing\nmissing\nwrong\nwrong\n' "$wholes"
+answers_in "$five$whole" 'a whole at the root' 'get\nget ?\nget #0\nset int 6\nset int 6 ?\nset bool true ?\nset int 6 ? #0\n' \
+    'whole\nint 5\nmissing\nrefused\nrefused\nrefused\nmissing\n' "$five$whole"
+# two nodes, which no writer of `cab` writes apart
+answers_in "$five$five$again$again$two" 'equal wholes apart' 'get #0\nget #0 ?\nget #1 ?\nset int 6 #1 ?\n' 'whole\nint 5\nint 5\nrefused\n' \
+    "$five$five$again$again$two"
+
 begin 'no input: the file is untouched'
 archive "$five"
 touch -d '2001-02-03 04:05:06' a.cab
@@ -439,10 +506,25 @@ nests() {
 for outcome in 'TooDeep 65' 'TooDeep 2198' 'Access 2199'; do
     nests 1 options "$five$some" "$some" '' $outcome
     nests 1 lists "$five$one" "$one" '' $outcome
+    nests 1 wholes "$five$whole" "$whole" '' $outcome
 done
 
+# a whole of 61 options, one in the other, in a list and then behind so many options of the list: at its second place 63
+# containers and those options lie in one another
+inside=$(number 1)$(printf "$some%.0s" {1..61})$whole
+last=0400000001000000c8ffffff$(zeros 12)
+begin 'a whole in 64 containers at its second place'
+archive "$inside$again$last$two"
+lines "get #1 ?$(printf ' ?%.0s' {1..62})\n"
+run run a.cab
+prints 'int 1\n'
+ends 0 ''
+finish
+unopened "$inside${some}09000000b4ffffff$(zeros 16)$last$two" TooDeep 'a whole in 65 containers at its second place'
+unopened "$inside$some${some}090000009cffffff$(zeros 16)$last$two" TooDeep 'a whole in 66 containers at its second place'
+
 begin 'behind 65 options a tag that is none is told first'
-archive "${five/01/09}$(printf "$some%.0s" {1..65})"
+archive "${five/01/0a}$(printf "$some%.0s" {1..65})"
 run run a.cab
 prints ''
 ends 1 'cab: open: Access\n'
@@ -460,12 +542,14 @@ prints ''
 ends 1 'cab: open: TooDeep\n'
 finish
 
-# no node has tag 9; of the first shared texts one reaches into the root, two lead to one position with other lengths, also where one is
-# empty, and one is not UTF-8; of the last, both options lead to one node
+# no node has tag 10; a whole begins in its own node, and one leads to the node in which it lies; of the first shared texts one
+# reaches into the root, two lead to one position with other lengths, also where one is empty, and one is not UTF-8; of the last,
+# both options lead to one node
 for bytes in '' 01 "${five:2}" ff0000000000000005000000000000000000000000000000 000200000000000000000000000000000000000000000000 02000000fe6f726c64ffffff000000000000000000000000 \
     020000008100000064ffffff000000000000000000000000 \
     090000000100000000000000000000000100000000000000 \
-    "${five}09000000e4ffffff00000000000000000000000000000000" \
+    "${five}0a000000e4ffffff00000000000000000000000000000000" \
+    "09000000fcffffff$(zeros 16)$whole" \
     03000000fcffffff01000000000000000000000000000000 "${twice:0:96}0b${twice:98}" "${empties:0:80}01${empties:82}" "ff${twice:2}" \
     "$seven${nineteen}05000000d4ffffff02000000000000000000000000000000" \
     "$seven${nineteen}05000000ceffffff01000000000000000000000000000000" \
@@ -790,13 +874,6 @@ decimals() {
     seq 0 $(($1 - 1)) | LC_ALL=C sort | sed "s/.*/'&\nint &/"
 }
 
-# is_shown: whether a.cab is shown as its text
-is_shown() {
-    show a.cab
-    cmp -s output text || differs 'another text is shown'
-    ends 0 ''
-}
-
 for counted in '0 24' '1 200' '5 200' '6 392' '17 744' '35 1272' '36 1464' '112 4136' '215 7704'; do
     read -r count size <<< "$counted"
     begin "an ordered map of $count keys, each of which answers"
@@ -1029,19 +1106,6 @@ finish
 
 # ---- trees that are not opened
 
-# unopened HEX CAUSE NAME: bytes that are refused
-unopened() {
-    begin "not opened: $3"
-    archive "$1"
-    lines "keys\nset int 6 'a\n"
-    run run a.cab
-    prints ''
-    ends 1 "cab: open: $2\n"
-    holds a.cab "$1"
-    leaves a.cab
-    finish
-}
-
 unopened "$(with "$coffee" 168 06)" Access 'a leaf that says six entries'
 unopened "$(with "$coffee" 168 01)" Access 'a map that says more entries than there are'
 unopened "$(with "$coffee" 184 01)" Access 'a map that says fewer entries than there are'
@@ -1052,7 +1116,7 @@ unopened "$(with "$coffee" 180 01000000)" Access 'a map with keys and no node'
 unopened "$(with "$coffee" 180 48)" Access 'a node before the first byte'
 unopened "$(with "$coffee" 4 fe)" Access 'a key that is not UTF-8'
 unopened "$(with "$coffee" 4 8100000000000000)" Access 'a key of one byte out of line'
-unopened "$(with "$coffee" 72 09)" Access 'a value that is none'
+unopened "$(with "$coffee" 72 0a)" Access 'a value that is none'
 unopened "$(with "$coffee" 72 07)" Access 'a hashed map without a table in an ordered one'
 unopened "$(with "$letters" 344 58ffffff)" Access 'a node inside itself'
 unopened "$(with "$letters" 348 a4feffff)" Access 'two children at one position'
@@ -1088,7 +1152,7 @@ finish
 
 # of several faults the one that is met first: those of the layout first of all, and a container's own before its parts'
 options=$(printf "$some%.0s" {1..63})
-unopened "$(with "$(leaf a 1 a 2)" 72 09)$(map -180 2)" Access 'a key twice, and a value that is none'
+unopened "$(with "$(leaf a 1 a 2)" 72 0a)$(map -180 2)" Access 'a key twice, and a value that is none'
 unopened "$(leaf a 1 a 2)$(map -180 2)$options" KeysNotAscending 'a key twice in 63 options'
 unopened "$(leaf a 1 a 2)$(map -180 2)$options$some" TooDeep 'a key twice in 64 options'
 unopened "$five$options$(with "$(leaf a 0 a 0)" 48 0400000001000000b0ffffff)$(map -180 2)" KeysNotAscending 'a key twice, and a value that lies too deep'
@@ -1535,7 +1599,7 @@ unopened "$(with "$single" 100 01000000)" Access 'a table that reaches into the 
 unopened "$(with "$single" 100 d4)" Access 'a table that begins before the first byte'
 unopened "$(with "$single" 0 fe)" Access 'a key of a hashed map that is not UTF-8'
 unopened "$(with "$single" 0 8100000000000000)" Access 'a key of a hashed map of one byte out of line'
-unopened "$(with "$single" 8 09)" Access 'a value of a hashed map that is none'
+unopened "$(with "$single" 8 0a)" Access 'a value of a hashed map that is none'
 unopened "$(with "$single" 8 08)" Access 'a kept map without a table in a hashed one'
 unopened "$(table a "$(number 1)")00$(hashed -36 1 2)$(hashed -60 1 2)05000000ccffffff02000000000000000000000000000000" Access 'two hashed maps with one table'
 
@@ -1617,7 +1681,7 @@ unopened "$(with "$z_and_a" 0 02)" Access 'a number that is that of no entry'
 unopened "$(with "$z_and_a" 124 02)" Access 'a kept map with as many pairs as places'
 unopened "$(with "$z_and_a" 128 b8)" Access 'entries of a kept map that reach into its node'
 unopened "$(with "$z_and_a" 48 fe)" Access 'a key of a kept map that is not UTF-8'
-unopened "$(with "$z_and_a" 56 09)" Access 'a value of a kept map that is none'
+unopened "$(with "$z_and_a" 56 0a)" Access 'a value of a kept map that is none'
 unopened "$(with "$z_and_a" 13 12 16 12)" WrongTag 'a control of a kept map that is another tag'
 unopened "$(with "$z_and_a" 0 00)" WrongTag 'two places of a kept map that name one entry'
 unopened "$(with "$z_and_a" 0 00 4 01)" WrongTag 'two places of a kept map that name each other'"'"'s entries'
@@ -2190,6 +2254,13 @@ shows "hashed 7\n'\nint 1\n'a\nint 2\n'aa\nint 3\n'b\nint 4\n'c\nint 5\n'd\nint 
 shows 'kept 0'
 shows "kept 2\n'z\nint 1\n'a\nint 2"
 shows "kept 7\n'd\nint 1\n'\nint 2\n'aa\nint 3\n'c\nint 4\n'e\nint 5\n'a\nint 6\n'b\nint 7"
+shows 'wholes 1\nint 5\nwhole 0'
+shows 'wholes 1\nint 5\nlist 2\nwhole 0\nwhole 0'
+shows 'wholes 2\nint 1\nlist 2\nwhole 0\nwhole 0\nlist 3\nwhole 1\nwhole 0\nwhole 1'
+shows "wholes 1\nint 5\nlist 3\n$maps"
+# numbered by the keys, of which the second has the lower place
+shows "wholes 2\nint 1\nint 2\nhashed 2\n'a\nwhole 0\n'b\nwhole 1"
+shows "wholes 2\nkept 1\n'a\nshared 'b\nordered 1\n'c\nwhole 0\nkept 2\n'z\nsome\nwhole 1\n'a\nwhole 0"
 shows "list 3\nshared 'a\nsome\nshared 'b\nordered 2\n'k\nshared 'a\n'l\nhashed 1\n'm\nshared 'b"
 shows "ordered 1\n'k\nsome\nlist 1\nhashed 1\n'l\nshared '"
 shows "list 2\nkept 2\n'b\nhashed 1\n'x\nkept 1\n'y\nshared 'c\n'a\ntext 'c\nsome\nkept 0"
@@ -2257,6 +2328,14 @@ images "$(with "$coffee" 188 aaaaaaaaaaaaaaaaaaaaaaaa)bbbbbbbbbbbbbb" "ordered 2
 images "$found" "hashed 1\n'a\nint 1"
 images "$(with "$z_and_a" 132 aaaaaaaa)" "kept 2\n'z\nint 1\n'a\nint 2"
 
+begin 'shown: equal wholes apart, as one'
+archive "$five$five$again$again$two"
+show a.cab
+prints 'wholes 1\nint 5\nlist 2\nwhole 0\nwhole 0\n'
+ends 0 ''
+holds a.cab "$five$five$again$again$two"
+finish
+
 # unshown NAME HEX CAUSE: bytes that are no archive
 unshown() {
     begin "not shown: $1"
@@ -2270,7 +2349,7 @@ unshown() {
 }
 
 unshown 'no bytes' '' Access
-unshown 'a tag that is none' "${five/01/09}" Access
+unshown 'a tag that is none' "${five/01/0a}" Access
 unshown '65 options' "$five$(printf "$some%.0s" {1..65})" TooDeep
 
 begin 'an archive that is not there is not shown'

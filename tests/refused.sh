@@ -203,6 +203,13 @@ refused_each
 row 'a kept map' "kept 2\n'z\nint 1\n'a\nint 2" "$z_and_a" \
     keys "keys 2 'z 'a" '' "get 'a" 'int 2' '' "get 'b" missing '' 'get #0' missing '' "set int 3 'a" ok '96 03' "get 'a" 'int 3' ''
 refused_each
+row 'a whole in two elements' "wholes 1\nint 5\nlist 2\nwhole 0\nwhole 0" "$wholes" \
+    'get #0' whole '' 'get #1 ?' 'int 5' '' 'set int 6 #0 ?' refused '' 'set int 6 #0' refused '' "get #0 'a" missing ''
+refused_each
+row 'a whole in three maps' \
+    "wholes 1\nint 5\nlist 3\nordered 2\n'a\nwhole 0\n'b\nint 6\nhashed 2\n'a\nwhole 0\n'b\nint 7\nkept 2\n'b\nint 8\n'a\nwhole 0" "$in_maps" \
+    "get #0 'a ?" 'int 5' '' "set int 9 #1 'b" ok '248 09' "get #1 'b" 'int 9' '' "set int 6 #1 'a ?" refused '' "keys #2" "keys 2 'b 'a" ''
+refused_each
 
 question=$(printf ' ?%.0s' {1..64})
 row '64 options, one in the other' "$(printf 'some\\n%.0s' {1..64})int 5" "$five$(printf "$some%.0s" {1..64})" \
@@ -266,14 +273,14 @@ done
 ends 0 ''
 finish
 
-for place in 0 1 2 3; do
-    each_call $place 1
-done
-for place in 4 5 6; do
-    each_call $place 2
+for place in {0..6} 13 14; do
+    each_call "$place" 1
 done
 for place in 7 8 9; do
-    each_call $place 97
+    each_call "$place" 2
+done
+for place in 10 11 12; do
+    each_call "$place" 97
 done
 
 echo "$refusals runs"

@@ -1,3 +1,3 @@
 mod Made
-mod Once
+pub mod Once
 mod Placed

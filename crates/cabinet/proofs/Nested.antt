@@ -1,8 +1,9 @@
 -- The number of regions around each region of a document: for each container around it at most as many as a search tree
 -- has levels, and the root's.
-use Rattle.std.proofs.Common.{◌≡◌, ℕ, zero, suc, ◌+◌, ◌-◌, ◌*◌, ◌<◌, ◌≤◌, nat_lt, Bool, true, false, cond, List, [], ◌∷◌, ◌++◌, refl, sym, ap, subst, ◌∙◌, arith}
+use Rattle.std.proofs.Common.{◌≡◌, ℕ, zero, suc, ◌+◌, ◌-◌, ◌*◌, ◌<◌, ◌≤◌, nat_lt, Bool, true, false, cond, List, [], ◌∷◌, ◌++◌, refl, sym, ap, ap₂, subst, ◌∙◌, arith}
 use Rattle.std.specs.Prelude.{⊤}
 use Rattle.std.specs.List.{Contains}
+use Rattle.archive_shape.specs.ShapeLayout.Shape.{Pointee}
 use Rattle.archive_shape.specs.ShapeLayout.Value.{Value, Values}
 use Rattle.archive_shape.specs.ShapeLayout.Content.{Part, Span, Label, Content, content_of}
 use Rattle.archive_shape.specs.ShapeLayout.Content.Part.{behind}
@@ -16,8 +17,8 @@ use Rattle.cabinet_archives.specs.Documents.Node.{node_names}
 use Rattle.cabinet_archives.specs.Documents.Walk.{Stop, Walks, WalkAll, is_container, depth_in, parts_of, joined}
 use Rattle.cabinet_archives.specs.Documents.Walk.Walks.{walks}
 use Rattle.cabinet_archives.specs.Documents.Walk.WalkAll.{walk_more}
-use Rattle.cabinet_archives.proofs.Documents.Places.{Place, shared_here, box_here, pair_here, tree_node, tree_child, buckets_here, numbers_here, node_here, entry_number, node_behind, nodes_behind, pairs_behind, text_behind, Spot, part_of, parts_at, each_from, entries_from, children_from, tagged_from, is_behind, Passes, node_passes, box_passes, behind_passes, list_passes, text_passes, child_passes, table_passes, Pays, pays_truth, pays_number, pays_text, pays_shared, pays_option, pays_list, pays_ordered, pays_hashed, pays_kept, Follows, passes, pays, truth_is, number_is, text_is, behind_is, none_is, some_is, nodes_follow, empty_is, total_is, leaf_follows, inner_follows, no_child_is, entry_follows, no_items_is, items_follow, no_entries_is, entries_second, numbers_follow, entry_number_is, pairs_follow, pair_follows, Leads, leads_nowhere, leads_plain, leads_claimed, leads_counted, led}
-use Rattle.cabinet_archives.proofs.Documents.HeldNodes.{counts}
+use Rattle.cabinet_archives.proofs.Documents.Places.{Place, shared_here, whole_here, box_here, pair_here, tree_node, tree_child, buckets_here, numbers_here, node_here, entry_number, node_behind, nodes_behind, pairs_behind, text_behind, Spot, part_of, parts_at, each_from, entries_from, children_from, tagged_from, is_behind, Passes, node_passes, box_passes, behind_passes, list_passes, text_passes, child_passes, table_passes, Pays, pays_truth, pays_number, pays_text, pays_shared, pays_option, pays_list, pays_ordered, pays_hashed, pays_kept, pays_whole, Follows, passes, pays, truth_is, number_is, text_is, behind_is, none_is, some_is, nodes_follow, empty_is, total_is, leaf_follows, inner_follows, no_child_is, entry_follows, no_items_is, items_follow, no_entries_is, entries_second, numbers_follow, entry_number_is, pairs_follow, pair_follows, Leads, leads_nowhere, leads_plain, leads_claimed, leads_counted, leads_whole, led}
+use Rattle.cabinet_archives.proofs.Documents.HeldNodes.{Counts, counts_text, counts_node, counts}
 use Rattle.cabinet_archives.proofs.Documents.Stops.{Each, each_front, each_flat, flat}
 
 -- ---- how many regions may lie around a place
@@ -82,6 +83,7 @@ pays_fit pays_list = refl
 pays_fit pays_ordered = refl
 pays_fit pays_hashed = refl
 pays_fit pays_kept = refl
+pays_fit pays_whole = refl
 
 -- what follows a place without its own region
 plain_fit : {bytes : List ℕ} {k : Place} {l : Label} {qs : List Spot} (level depth pos : ℕ)
@@ -203,6 +205,7 @@ module _ (bytes : List ℕ) where
       record { qs = qs; parts_are = cc; fit = subst (λ x. Fit level (depth_in depth x) qs) (sym is) (plain_fit level depth pos fs h) }
   plain_next level depth k pos (leads_claimed f fs b) is e h = let g = ap (content_of node_names bytes) is in absurd (cc)
   plain_next level depth k pos (leads_counted f) is e h = let g = ap (content_of node_names bytes) is in absurd (cc)
+  plain_next level depth k pos (leads_whole f) is e h = let g = ap (content_of node_names bytes) is in absurd (cc)
 
   record NextBehind (level depth : ℕ) (k : Place) (p : Part) (ps : List Part) : Type 0 where
     next : Next (suc level) depth p ps
@@ -212,6 +215,7 @@ module _ (bytes : List ℕ) where
   claimed_next level depth k pos (leads_nowhere f) is e h = let g = ap (content_of node_names bytes) is in absurd (cc)
   claimed_next level depth k pos (leads_plain f fs) is e h = let g = ap (content_of node_names bytes) is in absurd (cc)
   claimed_next level depth k pos (leads_counted f) is e h = let g = ap (content_of node_names bytes) is in absurd (cc)
+  claimed_next level depth k pos (leads_whole f) is e h = let g = ap (content_of node_names bytes) is in absurd (cc)
   claimed_next level depth k pos (leads_claimed {qs = qs} f fs b) is e h =
       let g = ap (content_of node_names bytes) is in
       let c = claimed_fit level depth pos fs b h in
@@ -221,11 +225,27 @@ module _ (bytes : List ℕ) where
   unfolding NestsBelow
   region_nests level depth k s low few h = (omega (arith, few, low, h), tt)
 
-  -- no more regions lie around a shared text than around the pointer to it
-  counted_fit : (level depth : ℕ) (k : Place) (pos len : ℕ) {p : Part} → p ≡ part_of k pos → k ≡ shared_here → Fits level depth k → Fits level (depth_in depth p) (text_behind len)
-  counted_fit level depth k pos len is here h =
+  -- what a pointer that counts leads to: a shared text, or the node of a whole, which is one container more
+  record NextCounted (level depth : ℕ) (p : Part) (t : ℕ) (q : Pointee) (len : ℕ) : Type 0 where
+    place : Place
+    part_is : behind t q len ≡ part_of place t
+    fit : Fits level (depth_in depth p) place
+
+  counted_next : (level depth : ℕ) (k : Place) (pos t : ℕ) {p : Part} {cyclic : Bool} {q : Pointee} {len : ℕ} → Counts bytes k cyclic q len → p ≡ part_of k pos → Fits level depth k → NextCounted level depth p t q len
+  counted_next level depth k pos t {len = len} (counts_text here acyclic type) is h =
       let there : Fits level depth shared_here = subst (Fits level depth) here h in
-      subst (λ x. Fits level (depth_in depth x) (text_behind len)) (sym (is ∙ ap (λ j. part_of j pos) here)) there
+      record {
+        place = text_behind len;
+        part_is = ap (λ x. behind t x len) type;
+        fit = subst (λ x. Fits level (depth_in depth x) (text_behind len)) (sym (is ∙ ap (λ j. part_of j pos) here)) there;
+      }
+  counted_next level depth k pos t (counts_node here acyclic type one) is h =
+      let there : Fits level depth whole_here = subst (Fits level depth) here h in
+      record {
+        place = node_behind;
+        part_is = ap₂ (λ x n. behind t x n) type one;
+        fit = subst (λ x. Fits level (depth_in depth x) node_behind) (sym (is ∙ ap (λ j. part_of j pos) here)) (omega (arith, there));
+      }
 
   -- the walk of one part
   record OneWalk (depth : ℕ) (p : Part) : Type 0 where
@@ -256,11 +276,12 @@ module _ (bytes : List ℕ) where
         let i = entered (content_of node_names bytes p) runs is_walk shallow low in
         let inner = all_nest all (subst (λ c. WalkAll node_names bytes (depth_in depth p) (parts_of c) ws runs) e wall) i.shallow i.low n.qs n.parts_are n.fit in
         subst (NestsBelow 2050) (sym x) (NestsBelow-append 2050 within (region_of s level ∷ []) inner (region_nests level depth k s low b.low h))
-    nests {level = level} {depth = depth} {p = p} (holds_first {t = t} {q = q} {len = len} e a b h d g) (walks {vs = ws} {inner = runs} wall y is_walk) shallow low k pos is fit =
+    nests {level = level} {depth = depth} {p = p} (holds_first {t = t} e a b h d g) (walks {vs = ws} {inner = runs} wall y is_walk) shallow low k pos is fit =
         let c = counts bytes k pos (ap (content_of node_names bytes) (sym is) ∙ e) in
         let i = entered (content_of node_names bytes p) runs is_walk shallow low in
         let o = one_walk (subst (λ x. WalkAll node_names bytes (depth_in depth p) (parts_of x) ws runs) e wall) i.shallow in
-        nests h o.walked o.shallow i.low (text_behind len) t (ap (λ x. behind t x len) c.to_text) (counted_fit level depth k pos len is c.here fit)
+        let n = counted_next level depth k pos t c is fit in
+        nests h o.walked o.shallow i.low n.place t n.part_is n.fit
     nests (holds_later e a b d g h) walked shallow low k pos is fit = subst (NestsBelow 2050) (sym g) tt
     nests (holds_back e a d g h) walked shallow low k pos is fit = subst (NestsBelow 2050) (sym g) tt
 

@@ -34,7 +34,6 @@ abbrev pub save_refusal_name : SaveRefusal → List ℕ
 save_refusal_name (save_refusal.Limit e) = codes "Limit"
 save_refusal_name (save_refusal.Writer e) = codes "Writer"
 save_refusal_name save_refusal.OutOfMemory = codes "OutOfMemory"
-save_refusal_name save_refusal.Kind = codes "Kind"
 
 abbrev pub open_refusal_name : OpenRefusal → List ℕ
 open_refusal_name (open_refusal.Access e) = codes "Access"

@@ -70,7 +70,6 @@ fn name_of_save_refusal(refusal: &SaveRefusal) -> &'static [u8]
         SaveRefusal::Limit(_) => b"Limit",
         SaveRefusal::Writer(_) => b"Writer",
         SaveRefusal::OutOfMemory => b"OutOfMemory",
-        SaveRefusal::Kind => b"Kind",
     }
 }
 

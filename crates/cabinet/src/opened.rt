@@ -131,8 +131,8 @@ impl<'a, G: Scan> Opened<'a, G> {
         cabinet_archives::load(alloc, self.bytes)
     }
 
-    /// Writes a leaf at a path, if the node there is a leaf of the same kind and, for a text, of the same length. Reads
-    /// only the nodes on the path, and does not allocate.
+    /// Writes a leaf at a path, if the node there is a leaf of the same kind and, for a text, of the same length. What
+    /// lies in a whole stays, since it may have other places too. Reads only the nodes on the path, and does not allocate.
     pub fn set(&mut self, path: &[Step], leaf: &Leaf) -> SetAnswer
         ensures same { self.new.bytes.ghost_name ≡ self.old.bytes.ghost_name }
         ensures answer { (t : Tree) → Accepted self.old.bytes.now t

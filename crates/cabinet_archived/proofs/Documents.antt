@@ -18,7 +18,6 @@ pub use Rattle.cabinet_documents.proofs.IndexWalks as IndexWalks
 pub use Rattle.cabinet_documents.proofs.Keyed as Keyed
 pub use Rattle.cabinet_documents.proofs.Known as Known
 pub use Rattle.cabinet_documents.proofs.Leading as Leading
-pub use Rattle.cabinet_documents.proofs.NoWholes as NoWholes
 pub use Rattle.cabinet_documents.proofs.NodeWalks as NodeWalks
 pub use Rattle.cabinet_documents.proofs.Nodes as Nodes
 pub use Rattle.cabinet_documents.proofs.Places as Places

@@ -11,7 +11,7 @@ use Rattle.archive_shape_writing.specs.Progress.{Progress, IsSet}
 use Rattle.archive_shape_writing.specs.Progress.Progress.{ended}
 use Rattle.cabinet_documents.specs.TextGrammar.TextKey.{text_key, text_of_key}
 use Rattle.cabinet_documents.proofs.TextGrammar.KeyLemmas.{key_has_text_law, text_has_key_law}
-use Rattle.cabinet_archived.specs.Texts.{progress_at}
+use Rattle.cabinet_archived.specs.Sharing.{progress_at}
 
 module _ (old : BTreeMap (String Global) ℕ) where
   abbrev known : BTreeMap (String Global) ℕ → ℕ → Progress ℕ

@@ -25,12 +25,12 @@ node_sized : size_of (choice payloads) ≡ 24
 unfolding align_up
 node_sized = refl
 
--- none of the tags of the kinds before a kept map
+-- none of the tags of the kinds before a whole
 abbrev pub IsOther : ℕ → Type 0
-IsOther n = (n ≡ 0 → ⊥) × (n ≡ 1 → ⊥) × (n ≡ 2 → ⊥) × (n ≡ 3 → ⊥) × (n ≡ 4 → ⊥) × (n ≡ 5 → ⊥) × (n ≡ 6 → ⊥) × (n ≡ 7 → ⊥)
+IsOther n = (n ≡ 0 → ⊥) × (n ≡ 1 → ⊥) × (n ≡ 2 → ⊥) × (n ≡ 3 → ⊥) × (n ≡ 4 → ⊥) × (n ≡ 5 → ⊥) × (n ≡ 6 → ⊥) × (n ≡ 7 → ⊥) × (n ≡ 8 → ⊥)
 
--- such a tag is that of a kept map, or it names none
-others : (n : ℕ) → IsOther n → (n ≡ 8) ⊎ (shape_tagged n payloads ≡ None)
+-- such a tag is that of a whole, or it names none
+others : (n : ℕ) → IsOther n → (n ≡ 9) ⊎ (shape_tagged n payloads ≡ None)
 others zero h = absurd (h.0 refl)
 others (suc zero) h = absurd (h.1 refl)
 others (suc (suc zero)) h = absurd (h.2 refl)
@@ -39,8 +39,9 @@ others (suc (suc (suc (suc zero)))) h = absurd (h.4 refl)
 others (suc (suc (suc (suc (suc zero))))) h = absurd (h.5 refl)
 others (suc (suc (suc (suc (suc (suc zero)))))) h = absurd (h.6 refl)
 others (suc (suc (suc (suc (suc (suc (suc zero))))))) h = absurd (h.7 refl)
-others (suc (suc (suc (suc (suc (suc (suc (suc zero)))))))) h = inl refl
-others (suc (suc (suc (suc (suc (suc (suc (suc (suc n))))))))) h = inr refl
+others (suc (suc (suc (suc (suc (suc (suc (suc zero)))))))) h = absurd (h.8 refl)
+others (suc (suc (suc (suc (suc (suc (suc (suc (suc zero))))))))) h = inl refl
+others (suc (suc (suc (suc (suc (suc (suc (suc (suc (suc n)))))))))) h = inr refl
 
 module _ (names : Names) (bytes : List ℕ) where
   -- ---- the check
@@ -61,11 +62,11 @@ module _ (names : Names) (bytes : List ℕ) where
         as_enum r (choice_checked names bytes pos payloads tag s (align_of s) tag_is payload (behind_tag (align_of s) some) k l r h)
 
     -- tags of no kind are refused
-    pub other_refused : IsOther (slice_index bytes pos) → (slice_index bytes pos ≡ 8 → ⊥) → Checks names bytes (at pos node_shape) k (Err InvalidTag) l
-    other_refused other no_map = by (others (slice_index bytes pos) other)
+    pub other_refused : IsOther (slice_index bytes pos) → (slice_index bytes pos ≡ 9 → ⊥) → Checks names bytes (at pos node_shape) k (Err InvalidTag) l
+    other_refused other no_whole = by (others (slice_index bytes pos) other)
       where
-        by : (slice_index bytes pos ≡ 8) ⊎ (shape_tagged (slice_index bytes pos) payloads ≡ None) → Checks names bytes (at pos node_shape) k (Err InvalidTag) l
-        by (inl e) = absurd (no_map e)
+        by : (slice_index bytes pos ≡ 9) ⊎ (shape_tagged (slice_index bytes pos) payloads ≡ None) → Checks names bytes (at pos node_shape) k (Err InvalidTag) l
+        by (inl e) = absurd (no_whole e)
         by (inr e) = as_enum (Err InvalidTag) (untagged_refused names bytes pos payloads k l e)
 
 -- ---- reading
@@ -103,10 +104,10 @@ module _ (bytes : List ℕ) (pos : ℕ) where
         let one = all there.value there.held in
         record { there = record { value = one.payload; held = one.held }; payload = all }
 
-    -- and a tag that is none of the others is that of a kept map
-    pub is_kept : IsOther (slice_index bytes pos) → slice_index bytes pos ≡ 8
-    is_kept other = by (others (slice_index bytes pos) other)
+    -- and a tag that is none of the others is that of a whole
+    pub is_whole : IsOther (slice_index bytes pos) → slice_index bytes pos ≡ 9
+    is_whole other = by (others (slice_index bytes pos) other)
       where
-        by : (slice_index bytes pos ≡ 8) ⊎ (shape_tagged (slice_index bytes pos) payloads ≡ None) → slice_index bytes pos ≡ 8
+        by : (slice_index bytes pos ≡ 9) ⊎ (shape_tagged (slice_index bytes pos) payloads ≡ None) → slice_index bytes pos ≡ 9
         by (inl e) = e
         by (inr e) = absurd (choice_has payloads KnowsNode bytes pos there.value (enum_held there.value there.held) e)

@@ -15,10 +15,10 @@ use Rattle.archive_forms_values.specs.FormsLaws.State.{State, Met, advanced, vis
 use Rattle.archive_forms_values.specs.FormsLaws.Shared.{shared_padding, shared_piece, shared_resolver, shared_met, shared_fits, shared_refused, first_piece}
 use Rattle.archive_forms_values.specs.FormsLaws.Texts.{boxed_text_spelling}
 use Rattle.archive_forms_values.specs.FormsLaws.Serializing.{IsAt, LaysData, of_data, progress, progress_by, is_begun}
-use Rattle.archive_forms_values.proofs.FormsLaws.Progress.{unmet_key}
+use Rattle.archive_forms_values.proofs.FormsLaws.Progress.{unmet_key, ended_key}
 use Rattle.archive_forms_writing.proofs.Laying.{Wrote, Stops, Fails, wrote_both, stopped_first, stopped_after, as_data, fails_as_data}
-use Rattle.cabinet_documents.specs.TextGrammar.TextKey.{text_key}
-use Rattle.cabinet_archived.specs.Texts.{text_padding}
+use Rattle.cabinet_documents.specs.SharedKeys.{key_of_text}
+use Rattle.cabinet_archived.specs.Sharing.{text_padding}
 
 pub padding_is : (t : List ℕ) (pos : ℕ) → zeros (shared_padding pos (pos + length t)) ≡ text_padding t
 padding_is [] pos = let same : (pos + 0 == pos) ≡ true = eq-eqb (pos + 0) pos (omega arith) in ap (λ b. zeros (cond b 1 0)) same
@@ -30,36 +30,43 @@ module _ {W : Type 0} (m : WriterMembers W) (t : List ℕ) where
   -- what a call promises, by what was visited under the text's number
   abbrev Promised : State → Option Visit → W → W → Result ℕ Error → Type 0
   Promised st o old new result =
-      LaysData m old new (shared_piece str length text_key boxed_text_spelling t st o)
-      (λ r. (r ≡ shared_resolver str length text_key boxed_text_spelling t st o) × shared_fits str length text_key boxed_text_spelling t st o
-      × IsAt m.pos m.known new (advanced (length (shared_piece str length text_key boxed_text_spelling t st o)) (shared_met str length text_key boxed_text_spelling t st o) st))
-      (shared_refused str length text_key boxed_text_spelling t st o) result
+      LaysData m old new (shared_piece str length key_of_text boxed_text_spelling t st o)
+      (λ r. (r ≡ shared_resolver str length key_of_text boxed_text_spelling t st o) × shared_fits str length key_of_text boxed_text_spelling t st o
+      × IsAt m.pos m.known new (advanced (length (shared_piece str length key_of_text boxed_text_spelling t st o)) (shared_met str length key_of_text boxed_text_spelling t st o) st))
+      (shared_refused str length key_of_text boxed_text_spelling t st o) result
 
   -- the text is kept at the position of the next byte, and nothing was written
   pub record IsKept (old new : W) : Type 0 where
     pub contents : m.contents new ≡ m.contents old
     pub pos : m.pos new ≡ m.pos old
     pub failures : m.failures new ≡ m.failures old
-    pub set : IsSet (m.known old) (m.known new) (text_key t) (ended (m.pos old))
+    pub set : IsSet (m.known old) (m.known new) (key_of_text t) (ended (m.pos old))
 
   nothing_wrote : {old new : W} → IsKept old new → Wrote (of_data m) old new []
   nothing_wrote {old} u = record { gains = λ t. u.contents ∙ sym (append-nil (m.contents old)); moves = u.pos ∙ sym (add-zero (m.pos old)); is_quiet = u.failures; keeps = λ key. refl }
 
-  module _ (old : W) (st : State) (at : IsAt m.pos m.known old st) (is_unmet : m.known old (text_key t) ≡ unmet) (mid : W) (u : IsKept old mid) where
-    is_new : (visit_of_key st.met (text_key t) ≡ None) × IsNoneOf (text_key t) st.begun
-    is_new = unmet_key st (text_key t) (sym (at.knows (text_key t)) ∙ is_unmet)
+  -- a text that was written before
+  pub found : (old : W) (st : State) → IsAt m.pos m.known old st → (pos : ℕ) → m.known old (key_of_text t) ≡ ended pos → Promised st (visit_of_key st.met (key_of_text t)) old old (Ok pos)
+  found old st at pos is =
+      let there = ended_key st (key_of_text t) pos (sym (at.knows (key_of_text t)) ∙ is) in
+      let none : Wrote (of_data m) old old [] = record { gains = λ t. sym (append-nil (m.contents old)); moves = sym (add-zero (m.pos old)); is_quiet = refl; keeps = λ key. refl } in
+      subst (λ o. Promised st o old old (Ok pos)) (sym there.1) (none, (sym there.2, tt, record { stands = at.stands ∙ sym (add-zero st.pos); knows = at.knows }))
+
+  module _ (old : W) (st : State) (at : IsAt m.pos m.known old st) (is_unmet : m.known old (key_of_text t) ≡ unmet) (mid : W) (u : IsKept old mid) where
+    is_new : (visit_of_key st.met (key_of_text t) ≡ None) × IsNoneOf (key_of_text t) st.begun
+    is_new = unmet_key st (key_of_text t) (sym (at.knows (key_of_text t)) ∙ is_unmet)
 
     abbrev refused : Error → Type 0
-    refused e = shared_refused str length text_key boxed_text_spelling t st None e
+    refused e = shared_refused str length key_of_text boxed_text_spelling t st None e
 
     abbrev piece : List ℕ
-    piece = first_piece str length text_key boxed_text_spelling t st
+    piece = first_piece str length key_of_text boxed_text_spelling t st
 
     piece_is : piece ≡ t ++ text_padding t
     piece_is = ap (λ l. t ++ l) (padding_is t st.pos)
 
     abbrev met : Met
-    met = record { key = text_key t; visit = record { pos = st.pos; pointee = str; len = length t; value = string t } }
+    met = record { key = key_of_text t; visit = record { pos = st.pos; pointee = str; len = length t; value = string t } }
 
     abbrev then : State
     then = record { pos = st.pos; met = met ∷ st.met; begun = st.begun }
@@ -68,13 +75,13 @@ module _ {W : Type 0} (m : WriterMembers W) (t : List ℕ) where
     at_then = record { stands = u.pos ∙ at.stands; knows = knows }
       where
         knows : (key : ℕ) → m.known mid key ≡ progress then key
-        knows key = tested (text_key t == key) refl
+        knows key = tested (key_of_text t == key) refl
           where
-            tested : (b : Bool) → (text_key t == key) ≡ b → m.known mid key ≡ progress_by (cond b (Some met.visit) (visit_of_key st.met key)) (is_begun st.begun key)
-            tested true same = let is : text_key t ≡ key = eqb-true (text_key t) key same in subst (λ n. m.known mid n ≡ ended st.pos) is (u.set.here ∙ ap ended at.stands)
-            tested false other = u.set.elsewhere key (λ e. eqb-false (text_key t) key other (sym e)) ∙ at.knows key
+            tested : (b : Bool) → (key_of_text t == key) ≡ b → m.known mid key ≡ progress_by (cond b (Some met.visit) (visit_of_key st.met key)) (is_begun st.begun key)
+            tested true same = let is : key_of_text t ≡ key = eqb-true (key_of_text t) key same in subst (λ n. m.known mid n ≡ ended st.pos) is (u.set.here ∙ ap ended at.stands)
+            tested false other = u.set.elsewhere key (λ e. eqb-false (key_of_text t) key other (sym e)) ∙ at.knows key
 
-    pub stopped_in_text : (new : W) (e : Error) → Stops (of_data m) mid new t (λ e. (2 ^ 32 ≤ st.pos) × (e ≡ PositionTooLarge)) e → Promised st (visit_of_key st.met (text_key t)) old new (Err e)
+    pub stopped_in_text : (new : W) (e : Error) → Stops (of_data m) mid new t (λ e. (2 ^ 32 ≤ st.pos) × (e ≡ PositionTooLarge)) e → Promised st (visit_of_key st.met (key_of_text t)) old new (Err e)
     stopped_in_text new e h =
         let limit : Error → Type 0 = λ e. (2 ^ 32 ≤ st.pos) × (e ≡ PositionTooLarge) in
         let pad = zeros (shared_padding st.pos (st.pos + length t)) in
@@ -85,13 +92,13 @@ module _ {W : Type 0} (m : WriterMembers W) (t : List ℕ) where
       text_wrote : Wrote (of_data m) old mid1 t
       text_wrote = wrote_both (of_data m) t refl (nothing_wrote u) h
 
-      pub stopped_in_pad : (e : Error) → Fails m mid1 new (text_padding t) e → Promised st (visit_of_key st.met (text_key t)) old new (Err e)
+      pub stopped_in_pad : (e : Error) → Fails m mid1 new (text_padding t) e → Promised st (visit_of_key st.met (key_of_text t)) old new (Err e)
       stopped_in_pad e g =
           let none : Error → Type 0 = λ _. ⊥ in
           subst (λ o. Promised st o old new (Err e)) (sym is_new.0) (stopped_after (of_data m) piece none refused piece_is (λ r. absurd r) text_wrote (inl (fails_as_data m g)))
 
       pub wrote : (pos : ℕ) → pos ≡ st.pos → IsUtf8 t × (st.pos < 2 ^ 32) → IsAt m.pos m.known mid1 (advanced (length t) (met ∷ st.met) then) → Wrote m mid1 new (text_padding t)
-          → Promised st (visit_of_key st.met (text_key t)) old new (Ok pos)
+          → Promised st (visit_of_key st.met (key_of_text t)) old new (Ok pos)
       wrote pos is fits after g =
           let all = wrote_both (of_data m) piece piece_is text_wrote (as_data m g) in
           subst (λ o. Promised st o old new (Ok pos)) (sym is_new.0)

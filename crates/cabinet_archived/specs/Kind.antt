@@ -9,7 +9,7 @@ use Rattle.archive_shape_layout.specs.Value.{Value}
 use Rattle.archive_shape_layout.specs.Content.{Names}
 use Rattle.archive_shape.specs.Key.{HeldAt}
 use Rattle.archive_forms_values.specs.Parts.{HasValue, HasPayload, both}
-use Rattle.cabinet_documents.specs.Node.{node_shape, pair_shape, KnowsNode}
+use Rattle.cabinet_documents.specs.Node.{node_shape, pair_shape, whole_shape, KnowsNode}
 use Rattle.cabinet_archived.specs.declared.kind.ArchivedKind.{ArchivedKind}
 use Rattle.cabinet_archived.specs.declared.kind.ArchivedKind.TheVariants as kind
 
@@ -29,3 +29,4 @@ IsKindAt bytes pos (kind.List r) = (r.bytes ≡ bytes) × (r.pos ≡ pos + 4) ×
 IsKindAt bytes pos (kind.Ordered r) = (r.bytes ≡ bytes) × (r.pos ≡ pos + 4) × IsTagged bytes.now pos 6 (tree 5 text node_shape) (both (λ _. ⊤) KnowsNode) r.pos
 IsKindAt bytes pos (kind.Hashed r) = (r.bytes ≡ bytes) × (r.pos ≡ pos + 4) × IsTagged bytes.now pos 7 (table pair_shape) (both (λ _. ⊤) KnowsNode) r.pos
 IsKindAt bytes pos (kind.Kept r) = (r.bytes ≡ bytes) × (r.pos ≡ pos + 4) × IsTagged bytes.now pos 8 (index_map text node_shape) (both (λ _. ⊤) KnowsNode) r.pos
+IsKindAt bytes pos (kind.Whole r) = (r.bytes ≡ bytes) × (r.pos ≡ pos + 4) × IsTagged bytes.now pos 9 whole_shape KnowsNode r.pos

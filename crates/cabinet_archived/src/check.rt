@@ -6,11 +6,11 @@ ghost use Rattle.archive_shape_layout.specs.Shape.Shape.{text, shared, option, b
 ghost use Rattle.archive_shape_layout.specs.Shape.Pointee.{sized, str};
 ghost use Rattle.archive_shape.specs.Kept.{IsWithin};
 ghost use Rattle.archive_shape.specs.Checks.{Checks, Moves};
-ghost use Rattle.cabinet_documents.specs.Node.{node_shape, pair_shape, KnowsNode};
+ghost use Rattle.cabinet_documents.specs.Node.{node_shape, pair_shape, whole_shape, KnowsNode};
 
 use crate::{ArchivedNode, tag};
 use archive_btree_nodes::check_btree_each;
-use archive_forms_rc::{ArchivedRcStr, RcFlavor};
+use archive_forms_rc::{ArchivedRcStr, RcFlavor, check_rc_each};
 use archive_forms_values::{
     ArchivedBox, ArchivedString, Entry, check_box_each, check_option_each, check_tuple2_each,
     check_vec_each,
@@ -56,7 +56,7 @@ fn check_shared<C: SharedContext>(
 
 /// Checks the node at `pos`. The regions that it claims end at `room` or before.
 ///
-/// Returns `InvalidTag` for a tag above 8, and otherwise the error of the payload's check.
+/// Returns `InvalidTag` for a tag above 9, and otherwise the error of the payload's check.
 #[cycle(node)]
 #[inline(always)]
 pub(crate) fn check_node<C: SharedContext>(
@@ -89,6 +89,7 @@ pub(crate) fn check_node<C: SharedContext>(
         tag::ORDERED => check_ordered(alloc, bytes, pos + tag::OFFSET, context, room),
         tag::HASHED => check_hashed(alloc, bytes, pos + tag::OFFSET, context, room),
         tag::KEPT => check_kept(alloc, bytes, pos + tag::OFFSET, context, room),
+        tag::WHOLE => check_whole(alloc, bytes, pos + tag::OFFSET, context, room),
         _ => Err(Error::InvalidTag),
     }
 }
@@ -290,6 +291,40 @@ fn check_kept<C: SharedContext>(
             ensures exact { (names : Names) → KnowsNode names
                 → Checks names bytes.entry.now (at p pair_shape) (C.kept c.old) result (C.kept c.new) }
         { check_pair(alloc, bytes, p, c, room - 32) },
+    )
+}
+
+/// Checks the counted pointer to a node at `pos`. The first pointer to a node claims and checks it; the regions that it
+/// claims end at `room` or before. Returns `CyclicSharedPointer` for a pointer that lies inside its node.
+#[cycle(node)]
+#[inline(never)]
+fn check_whole<C: SharedContext>(
+    alloc: Global,
+    bytes: &[u8],
+    pos: usize,
+    context: &mut C,
+    room: usize,
+) -> Result<(), Error>
+    requires fits { pos + 4 ≤ length bytes.now }
+    requires range { IsWithin (C.kept context.old) (length bytes.now) }
+    requires within { (C.kept context.old).end ≤ room }
+    ensures moves { Moves (C.kept context.old) result (C.kept context.new) }
+    ensures exact { (names : Names) → KnowsNode names
+        → Checks names bytes.now (at pos whole_shape) (C.kept context.old) result (C.kept context.new) }
+{
+    check_rc_each::<ArchivedNode, RcFlavor, C, _>(
+        alloc,
+        bytes,
+        pos,
+        context,
+        |c: &mut C, p: usize| -> Result<(), Error>
+            requires fits { p + 24 ≤ length bytes.now }
+            requires range { IsWithin (C.kept c.old) (length bytes.now) }
+            requires within { (C.kept c.old).end + 24 ≤ room }
+            ensures moves { Moves (C.kept c.old) result (C.kept c.new) }
+            ensures exact { (names : Names) → KnowsNode names
+                → Checks names bytes.entry.now (at p node_shape) (C.kept c.old) result (C.kept c.new) }
+        { check_node(alloc, bytes, p, c, room - 24) },
     )
 }
 

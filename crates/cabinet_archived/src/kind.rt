@@ -6,7 +6,7 @@ ghost use Rattle.cabinet_archived.specs.Kind.{IsKindAt};
 
 use crate::{ArchivedNode, tag};
 use archive_btree_maps::ArchivedBTreeMap;
-use archive_forms_rc::{ArchivedRcStr, RcFlavor};
+use archive_forms_rc::{ArchivedRc, ArchivedRcStr, RcFlavor};
 use archive_forms_values::{ArchivedBox, ArchivedOption, ArchivedString, ArchivedVec};
 use archive_hash_maps::ArchivedHashMap;
 use archive_hash_probing::FxHasher64;
@@ -34,6 +34,8 @@ pub enum ArchivedKind<'a> {
     Hashed(Ref<'a, ArchivedHashMap<ArchivedString, ArchivedNode, FxHasher64>>),
     /// A map that keeps the order of its pairs: tag 8, at byte 4.
     Kept(Ref<'a, ArchivedIndexMap<ArchivedString, ArchivedNode, FxHasher64>>),
+    /// A whole: tag 9, at byte 4.
+    Whole(Ref<'a, ArchivedRc<ArchivedNode, RcFlavor>>),
 }
 
 impl ArchivedNode {
@@ -53,7 +55,8 @@ impl ArchivedNode {
             tag::LIST => ArchivedKind::List(Ref::new(bytes, pos + tag::OFFSET)),
             tag::ORDERED => ArchivedKind::Ordered(Ref::new(bytes, pos + tag::OFFSET)),
             tag::HASHED => ArchivedKind::Hashed(Ref::new(bytes, pos + tag::OFFSET)),
-            _ => ArchivedKind::Kept(Ref::new(bytes, pos + tag::OFFSET)),
+            tag::KEPT => ArchivedKind::Kept(Ref::new(bytes, pos + tag::OFFSET)),
+            _ => ArchivedKind::Whole(Ref::new(bytes, pos + tag::OFFSET)),
         }
     }
 }

@@ -1,17 +1,18 @@
 //! Writes the own bytes of nodes, each by its kind.
-ghost use Rattle.std.specs.Prelude.{◌≡◌, false, ◌+◌, ◌-◌, ◌^◌, ◌<◌, ◌≤◌, length};
+ghost use Rattle.std.specs.Prelude.{◌≡◌, false, List, ◌+◌, ◌-◌, ◌^◌, ◌<◌, ◌≤◌, length};
 ghost use Rattle.std.specs.Rc.{rc_str_bytes};
 ghost use Rattle.archive_shape_layout.specs.Shape.Shape.{option, vector, shared, text, tree, table, index_map};
 ghost use Rattle.archive_shape_layout.specs.Shape.Pointee.{str};
 ghost use Rattle.archive_shape.specs.Bytes.{HasBytes, zeros};
 ghost use Rattle.archive_forms_laws.specs.Serializing.{CanResolve, Resolves};
-ghost use Rattle.cabinet_documents.specs.Node.{node_shape, pair_shape};
-ghost use Rattle.cabinet_documents.specs.Spelling.{boxed_shape, node_spelling, shared_string_spelling, maybe_spelling, list_spelling, ordered_spelling, hashed_spelling, kept_spelling, text_in, shared_in, maybe_in, list_in, ordered_in, hashed_in, kept_in};
-ghost use Rattle.cabinet_archived.specs.Archived.{archived_as, tree_within, trees_within, pairs_within};
+ghost use Rattle.cabinet_documents.specs.Node.{node_shape, pair_shape, whole_shape};
+ghost use Rattle.cabinet_documents.specs.Spelling.{boxed_shape, node_spelling, shared_string_spelling, maybe_spelling, list_spelling, ordered_spelling, hashed_spelling, kept_spelling, whole_spelling, text_in, shared_in, maybe_in, list_in, ordered_in, hashed_in, kept_in, whole_in};
+ghost use Rattle.cabinet_archived.specs.Archived.{archived_as, table_in, tree_within, trees_within, pairs_within};
+ghost use Rattle.cabinet_text_grammar.specs.Tree.{Tree};
 
-use crate::{ArchivedNode, tag};
+use crate::{ArchivedNode, NodeIn, tag};
 use archive_btree_maps::{ArchivedBTreeMap, BTreeMapResolver};
-use archive_forms_rc::{ArchivedRcStr, RcFlavor, RcResolver};
+use archive_forms_rc::{ArchivedRc, ArchivedRcStr, RcFlavor, RcResolver};
 use archive_forms_values::{
     ArchivedBox, ArchivedOption, ArchivedString, ArchivedVec, BoxResolver, StringResolver,
     VecResolver,
@@ -99,6 +100,16 @@ fn index_kept(resolver: NodeResolver) -> IndexMapResolver
     }
 }
 
+/// Returns the position of the node in a whole.
+fn whole_kept(resolver: NodeResolver) -> RcResolver
+    ensures { result ≡ whole_in resolver }
+{
+    match resolver {
+        NodeResolver::Whole(kept) => kept,
+        _ => RcResolver { pos: 0 },
+    }
+}
+
 /// Writes the pointer to a shared text.
 fn resolve_shared(
     text: &RcStr,
@@ -128,7 +139,7 @@ fn resolve_maybe(
     requires room { out.start + 8 ≤ length out.out.now }
     requires stands { out.pos + 8 < 2 ^ 64 }
     requires blank { HasBytes out.out.now out.start (zeros 8) }
-    ensures { Resolves (maybe_spelling node_spelling) (option boxed_shape) (tree_within content.now)
+    ensures { (wholes : List Tree) → Resolves (maybe_spelling (node_spelling wholes)) (option boxed_shape) (tree_within wholes content.now)
         resolver out.entry.pos out.entry.start out.entry.out.now out.exit.0.now result }
 {
     let Place {
@@ -155,7 +166,7 @@ fn resolve_list(
     out: Place<'_, ArchivedVec<ArchivedNode>>,
 ) -> Result<(), Error>
     requires { out.start + 8 ≤ length out.out.now }
-    ensures { Resolves (list_spelling node_spelling) (vector node_shape) (trees_within nodes.now.items)
+    ensures { (wholes : List Tree) → Resolves (list_spelling (node_spelling wholes)) (vector node_shape) (trees_within wholes nodes.now.items)
         resolver out.entry.pos out.entry.start out.entry.out.now out.exit.0.now result }
 {
     let Place {
@@ -175,7 +186,7 @@ fn resolve_ordered(
     out: Place<'_, ArchivedBTreeMap<ArchivedString, ArchivedNode, 5>>,
 ) -> Result<(), Error>
     requires { out.start + 8 ≤ length out.out.now }
-    ensures { Resolves (ordered_spelling node_spelling) (tree 5 text node_shape) (pairs_within map.now.entries)
+    ensures { (wholes : List Tree) → Resolves (ordered_spelling (node_spelling wholes)) (tree 5 text node_shape) (pairs_within wholes map.now.entries)
         resolver out.entry.pos out.entry.start out.entry.out.now out.exit.0.now result }
 {
     let Place {
@@ -199,7 +210,7 @@ fn resolve_hashed(
     out: Place<'_, ArchivedHashMap<ArchivedString, ArchivedNode, FxHasher64>>,
 ) -> Result<(), Error>
     requires { out.start + 12 ≤ length out.out.now }
-    ensures { Resolves (hashed_spelling node_spelling) (table pair_shape) (pairs_within map.now.entries)
+    ensures { (wholes : List Tree) → Resolves (hashed_spelling (node_spelling wholes)) (table pair_shape) (pairs_within wholes map.now.entries)
         resolver out.entry.pos out.entry.start out.entry.out.now out.exit.0.now result }
 {
     let Place {
@@ -227,7 +238,7 @@ fn resolve_kept(
 ) -> Result<(), Error>
     requires room { out.start + 16 ≤ length out.out.now }
     requires stands { out.pos + 16 < 2 ^ 64 }
-    ensures { Resolves (kept_spelling node_spelling) (index_map text node_shape) (pairs_within pairs.now.items)
+    ensures { (wholes : List Tree) → Resolves (kept_spelling (node_spelling wholes)) (index_map text node_shape) (pairs_within wholes pairs.now.items)
         resolver out.entry.pos out.entry.start out.entry.out.now out.exit.0.now result }
 {
     let Place {
@@ -245,15 +256,14 @@ fn resolve_kept(
     )
 }
 
-/// Writes a node's own bytes. Returns `InvalidTag` for a whole, which has no tag.
-pub(crate) fn resolve_node(
-    node: &Node,
-    resolver: NodeResolver,
-    out: Place<'_, ArchivedNode>,
+/// Writes the pointer to the node in a whole.
+fn resolve_whole(
+    resolver: RcResolver,
+    out: Place<'_, ArchivedRc<ArchivedNode, RcFlavor>>,
 ) -> Result<(), Error>
-    requires { CanResolve archived_as node_shape node.now resolver out.out.now out.start out.pos }
-    ensures { Resolves archived_as node_shape node.now resolver out.entry.pos out.entry.start
-        out.entry.out.now out.exit.0.now result }
+    requires { out.start + 4 ≤ length out.out.now }
+    ensures { (wholes : List Tree) (tree : Tree) → Resolves (whole_spelling wholes (node_spelling wholes)) whole_shape tree
+        resolver out.entry.pos out.entry.start out.entry.out.now out.exit.0.now result }
 {
     let Place {
         out,
@@ -261,7 +271,28 @@ pub(crate) fn resolve_node(
         pos,
         ..
     } = out;
-    match node {
+    let place = Place::within(out, start, pos);
+    ArchivedRc::<ArchivedNode, RcFlavor>::resolve_from_raw_parts(resolver, place)
+}
+
+/// Writes a node's own bytes.
+pub(crate) fn resolve_node(
+    node: NodeIn<'_>,
+    resolver: NodeResolver,
+    out: Place<'_, ArchivedNode>,
+) -> Result<(), Error>
+    requires { CanResolve (archived_as (table_in node)) node_shape node.node.now resolver out.out.now
+        out.start out.pos }
+    ensures { Resolves (archived_as (table_in node.entry)) node_shape node.entry.node.now resolver
+        out.entry.pos out.entry.start out.entry.out.now out.exit.0.now result }
+{
+    let Place {
+        out,
+        start,
+        pos,
+        ..
+    } = out;
+    match node.node {
         Node::Bool(value) => {
             out[start] = tag::BOOL;
             return value.resolve(
@@ -311,6 +342,10 @@ pub(crate) fn resolve_node(
             let place = Place::within(out, start + tag::OFFSET, pos + tag::OFFSET);
             return resolve_kept(pairs, index_kept(resolver), place);
         }
-        Node::Whole(_) => return Err(Error::InvalidTag),
+        Node::Whole(_) => {
+            out[start] = tag::WHOLE;
+            let place = Place::within(out, start + tag::OFFSET, pos + tag::OFFSET);
+            return resolve_whole(whole_kept(resolver), place);
+        }
     }
 }

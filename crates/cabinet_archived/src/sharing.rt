@@ -1,7 +1,8 @@
-//! Writing each shared text once.
+//! Writing each shared text and each whole once.
 
+mod node_share;
 mod serializing;
 mod text_share;
 
-pub use serializing::TextSharing;
-pub use text_share::TextShare;
+pub use node_share::NodeShare;
+pub use serializing::NodeSharing;

@@ -27,6 +27,9 @@ pub const HASHED: u8 = 7;
 /// The tag of a map that keeps the order of its pairs.
 pub const KEPT: u8 = 8;
 
+/// The tag of a whole.
+pub const WHOLE: u8 = 9;
+
 /// The offset of a truth value from the start of the node.
 pub const BOOL_OFFSET: usize = 1;
 

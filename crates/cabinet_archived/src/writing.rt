@@ -1,17 +1,21 @@
 //! Archives nodes, each by its kind and beside the table of its document.
-ghost use Rattle.std.specs.Prelude.{◌≡◌, ◌-◌, ◌^◌, ◌<◌, ◌≤◌, []};
+ghost use Rattle.std.specs.Prelude.{◌≡◌, ◌-◌, ◌^◌, ◌<◌, ◌≤◌, length, IfSome};
 ghost use Rattle.archive_forms_laws.specs.Serializing.{CanResolve, HasState, Resolves, Serializes, SerializesBy};
+ghost use Rattle.archive_forms_laws.specs.Pointers.{box_spelling};
+ghost use Rattle.archive_forms_laws.specs.Shared.{shared_value_spelling};
 ghost use Rattle.archive_forms_laws.proofs.Views.{seen_spells};
 ghost use Rattle.cabinet_text_grammar.specs.Tree.{depth};
+ghost use Rattle.cabinet_text_grammar.specs.Wholes.{numbered, IsNumbered, AreNumbered, ArePairsNumbered, IsTable};
 ghost use Rattle.cabinet_documents.specs.Node.{node_shape, KnowsNode};
+ghost use Rattle.cabinet_documents.specs.SharedKeys.{key_of_whole};
 ghost use Rattle.archive_forms_writing.specs.Owned.{string_spelling};
 ghost use Rattle.cabinet_documents.specs.Spelling.{node_spelling, maybe_spelling, list_spelling, ordered_spelling, hashed_spelling, kept_spelling};
 ghost use Rattle.cabinet_documents.proofs.Levels.{node_spells_law};
-ghost use Rattle.cabinet_archived.specs.Archived.{archived_as, archived_in, tree_within, trees_within, most_within, pairs_within, most_in_pairs};
-ghost use Rattle.cabinet_text_nodes.specs.View.{node_tree};
+ghost use Rattle.cabinet_archived.specs.Archived.{archived_as, archived_in, table_in, tree_within, trees_within, most_within, pairs_within, most_in_pairs, tree_numbered};
+ghost use Rattle.cabinet_text_nodes.specs.View.{node_tree, node_trees, node_pairs, table_of};
 
 use crate::resolving::resolve_node;
-use crate::{ArchivedNode, NodeIn, NodesIn, TextSharing};
+use crate::{ArchivedNode, NodeIn, NodeSharing, NodesIn};
 use archive_btree_maps::BTreeMapResolver;
 use archive_forms_rc::RcResolver;
 use archive_forms_values::{ArchivedString, BoxResolver, StringResolver, VecResolver};
@@ -21,7 +25,7 @@ use archive_forms_writing::{
 };
 use archive_hash_maps::HashTableResolver;
 use archive_index::IndexMapResolver;
-use archive_shape::{Error, Place};
+use archive_shape::{Error, Place, SharingState};
 use cabinet_documents::NodeResolver;
 use cabinet_text_nodes::Node;
 use std::collections::BTreeMap;
@@ -46,10 +50,21 @@ impl<'a> Archive for NodeIn<'a> {
             pos,
             ..
         } = out;
-        resolve_node(self.node, resolver, Place::within(out, start, pos))
+        resolve_node(*self, resolver, Place::within(out, start, pos))
     }
 
-    ghost spells = { λ fit. seen_spells fit node_shape KnowsNode (λ x. node_tree [] x.node.now) node_spelling (node_spells_law fit) };
+    ghost spells = { λ fit x.
+        let one = node_spells_law (table_in x) fit (node_tree (table_in x) x.node.now) in
+        record {
+          sized = one.sized;
+          canonical = one.canonical;
+          consistent = one.consistent;
+          keyed = one.keyed;
+          piece_bytes = one.piece_bytes;
+          own_bytes = one.own_bytes;
+          piece_exact = one.piece_exact;
+          own_exact = one.own_exact;
+        } };
 }
 
 impl<'a> ArchiveWith<Node> for NodesIn<'a> {
@@ -57,7 +72,7 @@ impl<'a> ArchiveWith<Node> for NodesIn<'a> {
 
     type Resolver = NodeResolver;
 
-    ghost spelling = { λ _. archived_as };
+    ghost spelling = { λ with. archived_as (table_of with.wholes.now) };
 
     /// Writes a node's own bytes.
     fn resolve_with(
@@ -66,9 +81,10 @@ impl<'a> ArchiveWith<Node> for NodesIn<'a> {
         resolver: NodeResolver,
         out: Place<'_, ArchivedNode>,
     ) -> Result<(), Error>
-        requires { CanResolve archived_as node_shape value.now resolver out.out.now out.start out.pos }
-        ensures { Resolves archived_as node_shape value.now resolver out.entry.pos out.entry.start
-            out.entry.out.now out.exit.0.now result }
+        requires { CanResolve (archived_as (table_of self.now.wholes.now)) node_shape value.now resolver
+            out.out.now out.start out.pos }
+        ensures { Resolves (archived_as (table_of self.now.wholes.now)) node_shape value.now resolver
+            out.entry.pos out.entry.start out.entry.out.now out.exit.0.now result }
     {
         let Place {
             out,
@@ -76,22 +92,30 @@ impl<'a> ArchiveWith<Node> for NodesIn<'a> {
             pos,
             ..
         } = out;
-        resolve_node(value, resolver, Place::within(out, start, pos))
+        let node = NodeIn {
+            wholes: self.wholes,
+            node: value,
+        };
+        resolve_node(node, resolver, Place::within(out, start, pos))
     }
 
-    ghost spells = { λ _ fit. seen_spells fit node_shape KnowsNode (node_tree []) node_spelling (node_spells_law fit) };
+    ghost spells = { λ with fit. seen_spells fit node_shape KnowsNode (node_tree (table_of with.wholes.now))
+        (node_spelling (table_of with.wholes.now)) (node_spells_law (table_of with.wholes.now) fit) };
 }
 
 /// Writes the data of the node in an option.
 #[cycle(serialize)]
-fn serialize_maybe<S: TextSharing>(
+fn serialize_maybe<S: NodeSharing>(
     wholes: &[Node],
     content: &Option<Box<Node>>,
     serializer: &mut S,
 ) -> Result<Option<BoxResolver>, Error>
+    requires table { IsTable (table_of wholes.now) }
+    requires numbered { IfSome (tree_within (table_of wholes.now) content.now) (IsNumbered (table_of wholes.now)) }
     requires room { S.failures serializer.old < 2 ^ 64 - 1 }
     requires state { HasState S.pos S.known serializer.old }
-    ensures { Serializes (maybe_spelling node_spelling) S.Writer (tree_within content.now)
+    ensures { Serializes (maybe_spelling (node_spelling (table_of wholes.now))) S.Writer
+        (tree_within (table_of wholes.now) content.now)
         serializer.old serializer.new result }
 {
     let Some(inner) = content else {
@@ -104,11 +128,14 @@ fn serialize_maybe<S: TextSharing>(
         },
         serializer,
         |item: &NodeIn<'_>, s: &mut S| -> Result<(NodeResolver, PhantomData<ArchivedNode>), Error>
-            requires same { item.now.node.now ≡ inner.now.value }
+            requires same { node_tree (table_in item.now) item.now.node.now ≡ node_tree (table_of wholes.now) inner.now.value }
+            requires table { IsTable (table_in item.now) }
+            requires numbered { IsNumbered (table_in item.now) (node_tree (table_in item.now) item.now.node.now) }
             requires room { S.failures s.old < 2 ^ 64 - 1 }
             requires state { HasState S.pos S.known s.old }
             ensures { SerializesBy (λ q. q.0) archived_in S.Writer item.now s.old s.new result }
         {
+            let _ = &wholes;
             let _ = &inner;
             match serialize_node(*item, s) {
                 Ok(resolver) => Ok((resolver, PhantomData)),
@@ -124,14 +151,17 @@ fn serialize_maybe<S: TextSharing>(
 
 /// Writes the elements of a list after their data.
 #[cycle(serialize)]
-fn serialize_list<S: TextSharing>(
+fn serialize_list<S: NodeSharing>(
     wholes: &[Node],
     nodes: &Vec<Node>,
     serializer: &mut S,
 ) -> Result<VecResolver, Error>
+    requires table { IsTable (table_of wholes.now) }
+    requires numbered { AreNumbered (table_of wholes.now) (node_trees (table_of wholes.now) nodes.now.items) }
     requires room { S.failures serializer.old < 2 ^ 64 - 1 }
     requires state { HasState S.pos S.known serializer.old }
-    ensures { Serializes (list_spelling node_spelling) S.Writer (trees_within nodes.now.items)
+    ensures { Serializes (list_spelling (node_spelling (table_of wholes.now))) S.Writer
+        (trees_within (table_of wholes.now) nodes.now.items)
         serializer.old serializer.new result }
 {
     let written = serialize_slice_with_each::<Node, NodesIn<'_>, S, _>(
@@ -139,10 +169,12 @@ fn serialize_list<S: TextSharing>(
         nodes.as_slice(),
         serializer,
         |item: &Node, s: &mut S| -> Result<(NodeResolver, PhantomData<ArchivedNode>), Error>
-            requires below { depth (node_tree [] item.now) ≤ most_within nodes.now.items }
+            requires table { IsTable (table_of wholes.now) }
+            requires numbered { IsNumbered (table_of wholes.now) (node_tree (table_of wholes.now) item.now) }
+            requires below { depth (node_tree (table_of wholes.now) item.now) ≤ most_within (table_of wholes.now) nodes.now.items }
             requires room { S.failures s.old < 2 ^ 64 - 1 }
             requires state { HasState S.pos S.known s.old }
-            ensures { SerializesBy (λ q. q.0) archived_as S.Writer item.now s.old s.new result }
+            ensures { SerializesBy (λ q. q.0) (archived_as (table_of wholes.entry.now)) S.Writer item.now s.old s.new result }
         {
             let _ = &nodes;
             match serialize_node(NodeIn { wholes, node: item }, s) {
@@ -159,14 +191,17 @@ fn serialize_list<S: TextSharing>(
 
 /// Writes the search tree of the pairs of an ordered map, each node of it after the data of its pairs.
 #[cycle(serialize)]
-fn serialize_ordered<S: TextSharing>(
+fn serialize_ordered<S: NodeSharing>(
     wholes: &[Node],
     map: &BTreeMap<String, Node>,
     serializer: &mut S,
 ) -> Result<BTreeMapResolver, Error>
+    requires table { IsTable (table_of wholes.now) }
+    requires numbered { ArePairsNumbered (table_of wholes.now) (node_pairs (table_of wholes.now) map.now.entries) }
     requires room { S.failures serializer.old < 2 ^ 64 - 1 }
     requires state { HasState S.pos S.known serializer.old }
-    ensures { Serializes (ordered_spelling node_spelling) S.Writer (pairs_within map.now.entries)
+    ensures { Serializes (ordered_spelling (node_spelling (table_of wholes.now))) S.Writer
+        (pairs_within (table_of wholes.now) map.now.entries)
         serializer.old serializer.new result }
 {
     archive_btree::serialize_entries_with_each::<String, Node, NodesIn<'_>, S, _, _, 5>(
@@ -179,10 +214,12 @@ fn serialize_ordered<S: TextSharing>(
             ensures { SerializesBy (λ q. q.0) string_spelling S.Writer key.now s.old s.new result }
         { serialize_element(key, s) },
         |item: &Node, s: &mut S| -> Result<(NodeResolver, PhantomData<ArchivedNode>), Error>
-            requires below { depth (node_tree [] item.now) ≤ most_in_pairs map.now.entries }
+            requires table { IsTable (table_of wholes.now) }
+            requires numbered { IsNumbered (table_of wholes.now) (node_tree (table_of wholes.now) item.now) }
+            requires below { depth (node_tree (table_of wholes.now) item.now) ≤ most_in_pairs (table_of wholes.now) map.now.entries }
             requires room { S.failures s.old < 2 ^ 64 - 1 }
             requires state { HasState S.pos S.known s.old }
-            ensures { SerializesBy (λ q. q.0) archived_as S.Writer item.now s.old s.new result }
+            ensures { SerializesBy (λ q. q.0) (archived_as (table_of wholes.entry.now)) S.Writer item.now s.old s.new result }
         {
             let _ = &map;
             match serialize_node(NodeIn { wholes, node: item }, s) {
@@ -195,14 +232,17 @@ fn serialize_ordered<S: TextSharing>(
 
 /// Writes the table of the pairs of a hashed map after the data of its pairs.
 #[cycle(serialize)]
-fn serialize_hashed<S: TextSharing>(
+fn serialize_hashed<S: NodeSharing>(
     wholes: &[Node],
     map: &BTreeMap<String, Node>,
     serializer: &mut S,
 ) -> Result<HashTableResolver, Error>
+    requires table { IsTable (table_of wholes.now) }
+    requires numbered { ArePairsNumbered (table_of wholes.now) (node_pairs (table_of wholes.now) map.now.entries) }
     requires room { S.failures serializer.old < 2 ^ 64 - 1 }
     requires state { HasState S.pos S.known serializer.old }
-    ensures { Serializes (hashed_spelling node_spelling) S.Writer (pairs_within map.now.entries)
+    ensures { Serializes (hashed_spelling (node_spelling (table_of wholes.now))) S.Writer
+        (pairs_within (table_of wholes.now) map.now.entries)
         serializer.old serializer.new result }
 {
     archive_index::serialize_hashed_entries_with_each::<String, Node, NodesIn<'_>, S, _, _>(
@@ -215,10 +255,12 @@ fn serialize_hashed<S: TextSharing>(
             ensures { SerializesBy (λ q. q.0) string_spelling S.Writer key.now s.old s.new result }
         { serialize_element(key, s) },
         |item: &Node, s: &mut S| -> Result<(NodeResolver, PhantomData<ArchivedNode>), Error>
-            requires below { depth (node_tree [] item.now) ≤ most_in_pairs map.now.entries }
+            requires table { IsTable (table_of wholes.now) }
+            requires numbered { IsNumbered (table_of wholes.now) (node_tree (table_of wholes.now) item.now) }
+            requires below { depth (node_tree (table_of wholes.now) item.now) ≤ most_in_pairs (table_of wholes.now) map.now.entries }
             requires room { S.failures s.old < 2 ^ 64 - 1 }
             requires state { HasState S.pos S.known s.old }
-            ensures { SerializesBy (λ q. q.0) archived_as S.Writer item.now s.old s.new result }
+            ensures { SerializesBy (λ q. q.0) (archived_as (table_of wholes.entry.now)) S.Writer item.now s.old s.new result }
         {
             let _ = &map;
             match serialize_node(NodeIn { wholes, node: item }, s) {
@@ -231,14 +273,17 @@ fn serialize_hashed<S: TextSharing>(
 
 /// Writes the table and the entries of a map that keeps its order, the entries after the data of its pairs.
 #[cycle(serialize)]
-fn serialize_kept<S: TextSharing>(
+fn serialize_kept<S: NodeSharing>(
     wholes: &[Node],
     pairs: &Vec<(String, Node)>,
     serializer: &mut S,
 ) -> Result<IndexMapResolver, Error>
+    requires table { IsTable (table_of wholes.now) }
+    requires numbered { ArePairsNumbered (table_of wholes.now) (node_pairs (table_of wholes.now) pairs.now.items) }
     requires room { S.failures serializer.old < 2 ^ 64 - 1 }
     requires state { HasState S.pos S.known serializer.old }
-    ensures { Serializes (kept_spelling node_spelling) S.Writer (pairs_within pairs.now.items)
+    ensures { Serializes (kept_spelling (node_spelling (table_of wholes.now))) S.Writer
+        (pairs_within (table_of wholes.now) pairs.now.items)
         serializer.old serializer.new result }
 {
     archive_index::serialize_entries_with_each::<String, Node, NodesIn<'_>, S, _, _>(
@@ -251,10 +296,12 @@ fn serialize_kept<S: TextSharing>(
             ensures { SerializesBy (λ q. q.0) string_spelling S.Writer key.now s.old s.new result }
         { serialize_element(key, s) },
         |item: &Node, s: &mut S| -> Result<(NodeResolver, PhantomData<ArchivedNode>), Error>
-            requires below { depth (node_tree [] item.now) ≤ most_in_pairs pairs.now.items }
+            requires table { IsTable (table_of wholes.now) }
+            requires numbered { IsNumbered (table_of wholes.now) (node_tree (table_of wholes.now) item.now) }
+            requires below { depth (node_tree (table_of wholes.now) item.now) ≤ most_in_pairs (table_of wholes.now) pairs.now.items }
             requires room { S.failures s.old < 2 ^ 64 - 1 }
             requires state { HasState S.pos S.known s.old }
-            ensures { SerializesBy (λ q. q.0) archived_as S.Writer item.now s.old s.new result }
+            ensures { SerializesBy (λ q. q.0) (archived_as (table_of wholes.entry.now)) S.Writer item.now s.old s.new result }
         {
             let _ = &pairs;
             match serialize_node(NodeIn { wholes, node: item }, s) {
@@ -265,16 +312,71 @@ fn serialize_kept<S: TextSharing>(
     )
 }
 
-/// Writes the data of a node. Returns `InvalidTag` for a whole, which has no archived form. The depth of its recursion is
-/// at most the depth at which nodes lie in one another.
+/// Returns the position of the node in the whole with a number. Writes the node if it was not written before.
 #[cycle(serialize)]
-fn serialize_node<S: TextSharing>(
+fn serialize_whole<S: NodeSharing>(
+    wholes: &[Node],
+    number: u64,
+    serializer: &mut S,
+) -> Result<usize, Error>
+    requires table { IsTable (table_of wholes.now) }
+    requires within { number < length wholes.now }
+    requires room { S.failures serializer.old < 2 ^ 64 - 1 }
+    requires state { HasState S.pos S.known serializer.old }
+    ensures { Serializes (shared_value_spelling node_shape (key_of_whole (table_of wholes.now)) (node_spelling (table_of wholes.now)))
+        S.Writer (tree_numbered (numbered (table_of wholes.now) number)) serializer.old serializer.new result }
+{
+    match serializer.start_whole(number) {
+        Ok(SharingState::Started) => {}
+        Ok(SharingState::Pending) => return Err(Error::CyclicSharedPointer),
+        Ok(SharingState::Finished(pos)) => return Ok(pos),
+        Err(e) => return Err(e),
+    }
+    let inner = &wholes[number as usize];
+    let written = serialize_one_each::<NodeIn<'_>, S, _>(
+        &NodeIn {
+            wholes,
+            node: inner,
+        },
+        serializer,
+        |item: &NodeIn<'_>, s: &mut S| -> Result<(NodeResolver, PhantomData<ArchivedNode>), Error>
+            requires same { node_tree (table_in item.now) item.now.node.now ≡ node_tree (table_of wholes.now) inner.now }
+            requires table { IsTable (table_in item.now) }
+            requires numbered { IsNumbered (table_in item.now) (node_tree (table_in item.now) item.now.node.now) }
+            requires room { S.failures s.old < 2 ^ 64 - 1 }
+            requires state { HasState S.pos S.known s.old }
+            ensures { SerializesBy (λ q. q.0) archived_in S.Writer item.now s.old s.new result }
+        {
+            let _ = &wholes;
+            let _ = &inner;
+            match serialize_node(*item, s) {
+                Ok(resolver) => Ok((resolver, PhantomData)),
+                Err(e) => Err(e),
+            }
+        },
+    );
+    let pos = match written {
+        Ok(pos) => pos,
+        Err(e) => return Err(e),
+    };
+    match serializer.finish_whole(number, pos) {
+        Ok(()) => Ok(pos),
+        Err(e) => Err(e),
+    }
+}
+
+/// Writes the data of a node, and each whole once. The depth of its recursion is at most the depth at which nodes lie in
+/// one another.
+#[cycle(serialize)]
+fn serialize_node<S: NodeSharing>(
     node: NodeIn<'_>,
     serializer: &mut S,
 ) -> Result<NodeResolver, Error>
+    requires table { IsTable (table_in node) }
+    requires numbered { IsNumbered (table_in node) (node_tree (table_in node) node.node.now) }
     requires room { S.failures serializer.old < 2 ^ 64 - 1 }
     requires state { HasState S.pos S.known serializer.old }
-    ensures { Serializes archived_as S.Writer node.entry.node.now serializer.old serializer.new result }
+    ensures { Serializes archived_in S.Writer node.entry serializer.old serializer.new result }
 {
     match node.node {
         Node::Bool(_) => Ok(NodeResolver::Leaf),
@@ -307,13 +409,35 @@ fn serialize_node<S: TextSharing>(
             Ok(kept) => Ok(NodeResolver::Kept(kept)),
             Err(e) => Err(e),
         },
-        Node::Whole(_) => Err(Error::InvalidTag),
+        Node::Whole(number) => match serialize_whole(node.wholes, *number, serializer) {
+            Ok(pos) => Ok(NodeResolver::Whole(RcResolver { pos })),
+            Err(e) => Err(e),
+        },
     }
 }
 
-impl<'a, S: TextSharing> Serialize<S> for NodeIn<'a> {
-    /// Writes the data of a node.
-    fn serialize(&self, serializer: &mut S) -> Result<NodeResolver, Error> {
-        serialize_node(*self, serializer)
-    }
+/// Writes the data of a document's root and then its own bytes. Returns the position of these.
+pub fn serialize_root<S: NodeSharing>(root: NodeIn<'_>, serializer: &mut S) -> Result<usize, Error>
+    requires table { IsTable (table_in root) }
+    requires numbered { IsNumbered (table_in root) (node_tree (table_in root) root.node.now) }
+    requires room { S.failures serializer.old < 2 ^ 64 - 1 }
+    requires state { HasState S.pos S.known serializer.old }
+    ensures { Serializes (box_spelling node_shape archived_in) S.Writer root.entry serializer.old serializer.new result }
+{
+    serialize_one_each::<NodeIn<'_>, S, _>(
+        &root,
+        serializer,
+        |item: &NodeIn<'_>, s: &mut S| -> Result<(NodeResolver, PhantomData<ArchivedNode>), Error>
+            requires table { IsTable (table_in item.now) }
+            requires numbered { IsNumbered (table_in item.now) (node_tree (table_in item.now) item.now.node.now) }
+            requires room { S.failures s.old < 2 ^ 64 - 1 }
+            requires state { HasState S.pos S.known s.old }
+            ensures { SerializesBy (λ q. q.0) archived_in S.Writer item.now s.old s.new result }
+        {
+            match serialize_node(*item, s) {
+                Ok(resolver) => Ok((resolver, PhantomData)),
+                Err(e) => Err(e),
+            }
+        },
+    )
 }

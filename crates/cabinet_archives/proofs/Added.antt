@@ -1,4 +1,4 @@
--- Pairs that join others one after the other: by their keys, in whatever order they come, or behind one another.
+-- Pairs that are added to others, one after the other, in whatever order they come.
 use Rattle.std.proofs.Common.{◌≡◌, ◌≢◌, ℕ, Global, String, string_bytes, cond, List, [], ◌∷◌, ◌++◌, refl, sym, ap, subst, ◌∙◌}
 use Rattle.std.specs.Prelude.{⊤}
 use Rattle.std.specs.BTreeMap.{insert_entry}
@@ -8,13 +8,13 @@ use Rattle.std.specs.declared.cmp.Ordering.{Ordering}
 use Rattle.std.specs.declared.cmp.Ordering.TheVariants.{Less, Equal, Greater}
 use Rattle.std.specs.Cmp.Lexicographic.{slice_cmp, nat_list_cmp_total}
 use Rattle.std.proofs.lemmas.Map.Lookups.{exact_bytes}
-use Rattle.cabinet_text_nodes.specs.TextGrammar.Keys.{MapKind, ordered, hashed, kept, IsAboveLast}
+use Rattle.cabinet_text_nodes.specs.TextGrammar.Keys.{MapKind, ordered, hashed, IsAboveLast}
 use Rattle.cabinet_text_nodes.specs.TextGrammar.Tree.{Tree, Pairs, no_pairs, more_pairs, ArePairs}
 use Rattle.cabinet_archived.specs.Documents.Order.{inserted, arranged}
 use Rattle.cabinet_text_nodes.specs.View.{node_tree, node_pairs}
 use Rattle.cabinet_text_nodes.specs.declared.node.Node.{Node}
-use Rattle.cabinet_archives.specs.Loading.{added, appended}
-use Rattle.cabinet_archived.proofs.Documents.ByKey.{Lacks, AreKeysDistinct, pair_keys}
+use Rattle.cabinet_archives.specs.Loading.{added, all_added}
+use Rattle.cabinet_archived.proofs.Documents.ByKey.{Lacks, AreKeysDistinct, pair_keys, keys_distinct, distinct}
 
 abbrev order : List ℕ → List ℕ → Ordering
 order k l = slice_cmp nat_cmp k l
@@ -87,20 +87,9 @@ swap k t l u ps differ = by (order k l) refl
 
 -- ---- all pairs
 
--- the way in which a pair joins others in a map of a kind
-abbrev pub joined : MapKind → List ℕ → Tree → Pairs → Pairs
-joined ordered = added
-joined hashed = added
-joined kept = appended
-
--- pairs that join others, one after the other
-abbrev pub all_joined : (List ℕ → Tree → Pairs → Pairs) → Pairs → Pairs → Pairs
-all_joined join no_pairs others = others
-all_joined join (more_pairs k t ps) others = all_joined join ps (join k t others)
-
-added_last : (k : List ℕ) (t : Tree) (ps others : Pairs) → Lacks k ps → all_joined added ps (added k t others) ≡ added k t (all_joined added ps others)
+added_last : (k : List ℕ) (t : Tree) (ps others : Pairs) → Lacks k ps → all_added ps (added k t others) ≡ added k t (all_added ps others)
 added_last k t no_pairs others h = refl
-added_last k t (more_pairs l u ps) others h = ap (all_joined added ps) (swap l u k t others h.0) ∙ added_last k t ps (added l u others) h.1
+added_last k t (more_pairs l u ps) others h = ap (all_added ps) (swap l u k t others h.0) ∙ added_last k t ps (added l u others) h.1
 
 lacks_added : (k l : List ℕ) (u : Tree) (ps : Pairs) → l ≢ k → Lacks k ps → Lacks k (added l u ps)
 lacks_added k l u no_pairs differ h = (differ, tt)
@@ -111,25 +100,15 @@ lacks_added k l u (more_pairs m v ps) differ h = by (order l m) (lacks_added k l
     by Equal on = h
     by Greater on = (h.0, on)
 
-lacks_all : (k : List ℕ) (ps others : Pairs) → Lacks k ps → Lacks k others → Lacks k (all_joined added ps others)
+lacks_all : (k : List ℕ) (ps others : Pairs) → Lacks k ps → Lacks k others → Lacks k (all_added ps others)
 lacks_all k no_pairs others h g = g
 lacks_all k (more_pairs l u ps) others h g = lacks_all k ps (added l u others) h.1 (lacks_added k l u others h.0 g)
 
 -- pairs with distinct keys come into their order
-pub added_arranged : (ps : Pairs) → AreKeysDistinct (pair_keys ps) → all_joined added ps no_pairs ≡ arranged ps
+pub added_arranged : (ps : Pairs) → AreKeysDistinct (pair_keys ps) → all_added ps no_pairs ≡ arranged ps
 added_arranged no_pairs h = refl
 added_arranged (more_pairs k t ps) h =
-    added_last k t ps no_pairs h.0 ∙ added_new k t (all_joined added ps no_pairs) (lacks_all k ps no_pairs h.0 tt) ∙ ap (inserted k t) (added_arranged ps h.1)
-
--- before the others stand those that were there
-appended_behind : (k : List ℕ) (t : Tree) (ps others : Pairs) → all_joined appended ps (more_pairs k t others) ≡ more_pairs k t (all_joined appended ps others)
-appended_behind k t no_pairs others = refl
-appended_behind k t (more_pairs l u ps) others = appended_behind k t ps (appended l u others)
-
--- pairs that are appended one after the other stay in their order
-pub appended_same : (ps : Pairs) → all_joined appended ps no_pairs ≡ ps
-appended_same no_pairs = refl
-appended_same (more_pairs k t ps) = appended_behind k t ps no_pairs ∙ ap (more_pairs k t) (appended_same ps)
+    added_last k t ps no_pairs h.0 ∙ added_new k t (all_added ps no_pairs) (lacks_all k ps no_pairs h.0 tt) ∙ ap (inserted k t) (added_arranged ps h.1)
 
 -- ---- pairs that are in order
 
@@ -138,11 +117,17 @@ abbrev pub Rise : List (List ℕ) → List (List ℕ) → Type 0
 Rise before [] = ⊤
 Rise before (k ∷ ks) = IsAboveLast before k × Rise (k ∷ before) ks
 
-pub pairs_rise : (before : List (List ℕ)) (ps : Pairs) → ArePairs ordered before ps → Rise before (pair_keys ps)
-pairs_rise before no_pairs p = tt
-pairs_rise before (more_pairs k t ps) p = (p.0.1, pairs_rise (k ∷ before) ps p.1.1)
+-- maps of these kinds have their keys in order
+pub data IsSorted : MapKind → Type 0 where
+  ordered_is : IsSorted ordered
+  hashed_is : IsSorted hashed
 
-pub rising_arranged : (before : List (List ℕ)) (ps : Pairs) → Rise before (pair_keys ps) → arranged ps ≡ ps
+pairs_rise : {kind : MapKind} → IsSorted kind → (before : List (List ℕ)) (ps : Pairs) → ArePairs kind before ps → Rise before (pair_keys ps)
+pairs_rise s before no_pairs p = tt
+pairs_rise ordered_is before (more_pairs k t ps) p = (p.0.1, pairs_rise ordered_is (k ∷ before) ps p.1.1)
+pairs_rise hashed_is before (more_pairs k t ps) p = (p.0.1, pairs_rise hashed_is (k ∷ before) ps p.1.1)
+
+rising_arranged : (before : List (List ℕ)) (ps : Pairs) → Rise before (pair_keys ps) → arranged ps ≡ ps
 rising_arranged before no_pairs h = refl
 rising_arranged before (more_pairs k t ps) h = ap (inserted k t) (rising_arranged (k ∷ before) ps h.1) ∙ first ps h.1
   where
@@ -150,21 +135,20 @@ rising_arranged before (more_pairs k t ps) h = ap (inserted k t) (rising_arrange
     first no_pairs q = refl
     first (more_pairs l u qs) q = ap (λ o. cond (is_lt o) (more_pairs l u (inserted k t qs)) (more_pairs k t (more_pairs l u qs))) (turned k l q.0)
 
--- ---- lists and maps of std
+-- pairs in order stay as they are
+pub added_same : {kind : MapKind} → IsSorted kind → (ps : Pairs) → ArePairs kind [] ps → all_added ps no_pairs ≡ ps
+added_same {kind = kind} s ps p = added_arranged ps (keys_distinct ps (distinct kind [] ps p)) ∙ rising_arranged [] ps (pairs_rise s [] ps p)
 
--- an entry that is pushed is a pair that is appended
-pub entry_appended : (entries : List (String Global × Node)) (key : String Global) (node : Node) → node_pairs [] (entries ++ ((key, node) ∷ [])) ≡ appended (string_bytes key) (node_tree [] node) (node_pairs [] entries)
-entry_appended [] key node = refl
-entry_appended (e ∷ es) key node = ap (more_pairs (string_bytes e.0) (node_tree [] e.1)) (entry_appended es key node)
+-- ---- maps of std
 
 -- an entry that is inserted is a pair that is added
-pub entry_added : (entries : List (String Global × Node)) (key : String Global) (node : Node) → node_pairs [] (insert_entry string_cmp entries key node) ≡ added (string_bytes key) (node_tree [] node) (node_pairs [] entries)
-entry_added [] key node = refl
-entry_added (e ∷ es) key node = by (string_cmp key e.0) (entry_added es key node)
+pub entry_added : (table : List Tree) (entries : List (String Global × Node)) (key : String Global) (node : Node) → node_pairs table (insert_entry string_cmp entries key node) ≡ added (string_bytes key) (node_tree table node) (node_pairs table entries)
+entry_added table [] key node = refl
+entry_added table (e ∷ es) key node = by (string_cmp key e.0) (entry_added table es key node)
   where
-    by : (o : Ordering) → node_pairs [] (insert_entry string_cmp es key node) ≡ added (string_bytes key) (node_tree [] node) (node_pairs [] es)
-        → node_pairs [] (match_ordering o ((key, node) ∷ e ∷ es) ((e.0, node) ∷ es) (e ∷ insert_entry string_cmp es key node))
-        ≡ match_ordering o (more_pairs (string_bytes key) (node_tree [] node) (node_pairs [] (e ∷ es))) (more_pairs (string_bytes e.0) (node_tree [] node) (node_pairs [] es)) (more_pairs (string_bytes e.0) (node_tree [] e.1) (added (string_bytes key) (node_tree [] node) (node_pairs [] es)))
+    by : (o : Ordering) → node_pairs table (insert_entry string_cmp es key node) ≡ added (string_bytes key) (node_tree table node) (node_pairs table es)
+        → node_pairs table (match_ordering o ((key, node) ∷ e ∷ es) ((e.0, node) ∷ es) (e ∷ insert_entry string_cmp es key node))
+        ≡ match_ordering o (more_pairs (string_bytes key) (node_tree table node) (node_pairs table (e ∷ es))) (more_pairs (string_bytes e.0) (node_tree table node) (node_pairs table es)) (more_pairs (string_bytes e.0) (node_tree table e.1) (added (string_bytes key) (node_tree table node) (node_pairs table es)))
     by Less on = refl
     by Equal on = refl
-    by Greater on = ap (more_pairs (string_bytes e.0) (node_tree [] e.1)) on
+    by Greater on = ap (more_pairs (string_bytes e.0) (node_tree table e.1)) on

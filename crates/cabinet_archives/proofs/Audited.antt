@@ -1,5 +1,5 @@
 -- The root of bytes that access accepts is audited, and the audit decides whether the bytes are an archive.
-use Rattle.std.proofs.Common.{◌≡◌, ◌≢◌, ℕ, List, [], length, Result, Ok, Err, refl, sym, subst, ◌∙◌, ap}
+use Rattle.std.proofs.Common.{◌≡◌, ◌≢◌, ℕ, ◌+◌, ◌<◌, ◌≤◌, ◌^◌, ◌⊎◌, inl, inr, List, [], length, Result, Ok, Err, refl, sym, subst, ◌∙◌, ap}
 use Rattle.std.specs.Prelude.{OnOk, IfErr}
 use Rattle.archive_shape.specs.ShapeLayout.Content.Part.{at}
 use Rattle.archive_shape.specs.ShapeLayout.Holds.{root_position}
@@ -22,9 +22,10 @@ use Rattle.cabinet_archived.specs.Documents.Audit.{faults, first_of, IsRefusedFo
 use Rattle.cabinet_archived.specs.Documents.Laws.{AuditDecided}
 use Rattle.cabinet_archived.proofs.Documents.Deciding.{audit_decides_law}
 use Rattle.cabinet_archived.proofs.Documents.NodeWalks.{BehindWalk, behind_walk}
-use Rattle.cabinet_archives.specs.Sound.{Reports, Audits}
+use Rattle.cabinet_archives.specs.Sound.{Reports, HasHeight, AuditsTo}
 use Rattle.cabinet_archives.specs.Refused.{refusal_of, IsRefusalFor, for_memory, for_access}
 use Rattle.cabinet_archives.specs.declared.opening.refusal.OpenRefusal.{OpenRefusal}
+use Rattle.cabinet_archives.specs.declared.opening.refusal.OpenRefusal.TheVariants as refusal
 
 -- ---- the access
 
@@ -67,21 +68,26 @@ most_is = refl
 abbrev root_of : List ℕ → ℕ
 root_of bytes = root_position (length bytes) node_shape
 
-module _ (bytes : List ℕ) (small : AreBytes bytes) (p : HasNode bytes (most_of 2200)) where
+module _ (bytes : List ℕ) (small : AreBytes bytes) (counted : length bytes < 2 ^ 64) (p : HasNode bytes (most_of 2200)) where
   decided : AuditDecided bytes p.value
-  decided = audit_decides_law bytes p.value p.regions p.after small (record { holds = p.accepts.holds; ascends = p.accepts.ascends })
+  decided = audit_decides_law bytes p.value p.regions p.after small counted (record { holds = p.accepts.holds; ascends = p.accepts.ascends })
 
   -- what it reports of the root decides
-  pub audited : (r : Result (Unit {0}) OpenRefusal) → Audits bytes 0 (at (root_of bytes) node_shape) r
+  pub audited : (r : Result ℕ OpenRefusal) → AuditsTo bytes 0 (at (root_of bytes) node_shape) r
       → OnOk r ((t : Tree) × Accepted bytes t) × IfErr r (λ why. IsRefusedFor bytes (refusal_of why))
-  audited r told = by r (told p.value node.run node.node)
+  audited (Ok height) found =
+      let a = decided.accepted (node.faults_are ∙ found.1.fits 0 p.value node.run found.0 node.node) in
+      ((a.tree, a.accepted), tt)
     where
       node : BehindWalk bytes 0 (root_of bytes) p.value decided.walk
       node = behind_walk bytes (root_of bytes) decided.walked
-
-      by : (r : Result (Unit {0}) OpenRefusal) → Reports r (faults bytes node.run) → OnOk r ((t : Tree) × Accepted bytes t) × IfErr r (λ why. IsRefusedFor bytes (refusal_of why))
-      by (Ok done) none = let a = decided.accepted (node.faults_are ∙ none) in ((a.tree, a.accepted), tt)
-      by (Err why) h = (tt, subst (IsRefusedFor bytes) (sym h.1) (decided.refused h.0 (ap first_of node.faults_are ∙ h.2)))
+  audited (Err why) (inl memory) = (tt, subst (λ r. IsRefusedFor bytes (refusal_of r)) (sym memory) tt)
+  audited (Err why) (inr told) =
+      let h = told p.value node.run node.node in
+      (tt, subst (IsRefusedFor bytes) (sym h.1) (decided.refused h.0 (ap first_of node.faults_are ∙ h.2)))
+    where
+      node : BehindWalk bytes 0 (root_of bytes) p.value decided.walk
+      node = behind_walk bytes (root_of bytes) decided.walked
 
 -- the node that was accessed has a value
 pub node_there : (bytes : List ℕ) {A : Type 0} (x : A) → HasNode bytes (most_of 2200) → HasValue node_shape KnowsNode bytes (root_of bytes)

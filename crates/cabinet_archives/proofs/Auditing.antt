@@ -1,5 +1,5 @@
--- What an audit reports of a container, from what it reports of the nodes in it.
-use Rattle.std.proofs.Common.{◌≡◌, ◌∙◌, ℕ, zero, suc, ◌+◌, ◌*◌, ◌<◌, ◌≤◌, Bool, Bor, true, false, nat_lt, List, [], ◌∷◌, ◌++◌, length, get_or, drop, slice_index, map, Some, Result, Ok, Err, refl, sym, ap, subst, arith, append-nil, lt-ltb, le-ltb}
+-- What an audit finds of a container, from what it finds of the nodes in it.
+use Rattle.std.proofs.Common.{MatchResult, ◌≡◌, ◌∙◌, ℕ, zero, suc, ◌+◌, ◌*◌, ◌<◌, ◌≤◌, Bool, Bor, true, false, nat_lt, List, [], ◌∷◌, ◌++◌, length, get_or, take, drop, max, slice_index, map, Some, Result, Ok, Err, ◌⊎◌, inl, inr, refl, sym, ap, ap₂, subst, arith, append-nil, append_assoc, lt-ltb, le-ltb}
 use Rattle.std.specs.Prelude.{⊤, All}
 use Rattle.std.specs.List.{flat_map}
 use Rattle.std.proofs.lemmas.List.Elements.{All-nil, All-cons}
@@ -24,24 +24,21 @@ use Rattle.cabinet_archived.specs.Documents.Walk.{Stop, Walks, WalkAll}
 use Rattle.cabinet_archived.specs.Documents.Audit as audit
 use Rattle.cabinet_archived.specs.Documents.Audit.{too_deep, keys_not_ascending, unless, faults, first_of}
 use Rattle.cabinet_archived.specs.declared.node.ArchivedNode.{ArchivedNode}
-use Rattle.cabinet_archived.proofs.Documents.Places.{node_here, option_here, list_here, part_of}
-use Rattle.cabinet_archived.proofs.Documents.NodeWalks.{OptionWalk, walks_none, walks_some, option_walk, list_walk, element_walk, element_count}
+use Rattle.cabinet_archived.proofs.Documents.Places.{node_here, option_here, list_here, part_of, whole_here}
+use Rattle.cabinet_archived.proofs.Documents.NodeWalks.{OptionWalk, walks_none, walks_some, option_walk, list_walk, element_walk, element_count, whole_walk}
 use Rattle.cabinet_archived.proofs.Documents.TreeWalks.{ItemsWalk, no_items, more_items}
 use Rattle.cabinet_archives.specs.Keyed.{knows_pairs}
 use Rattle.cabinet_archives.specs.declared.opening.refusal.OpenRefusal.{OpenRefusal}
 use Rattle.cabinet_archives.specs.declared.opening.refusal.OpenRefusal.TheVariants as refusal
 use Rattle.cabinet_archives.specs.Ordered.{map_shape}
-use Rattle.cabinet_archives.specs.Sound.{Reports, Audits}
-use Rattle.cabinet_archives.proofs.Walked.{Boxed, Inner, leaf_faults, none_faults, some_in, vector_in, map_in}
+use Rattle.cabinet_archives.specs.Sound.{Reports, Audits, HasHeight, AuditsTo}
+use Rattle.cabinet_archives.proofs.Heights.{AreAsHigh, flat_high, both_high, high_at, around_high, first_stays, flat_height, height_in, past_refused}
+use Rattle.cabinet_archives.proofs.Walked.{Boxed, Inner, leaf_faults, none_faults, some_in, vector_in, map_in, whole_in}
 
 -- ---- faults one after another
 
 pub reports_as : (r : Result (Unit {0}) OpenRefusal) {xs ys : List audit.Unsound} → xs ≡ ys → Reports r ys → Reports r xs
 reports_as r e h = subst (Reports r) (sym e) h
-
-first_stays : (u : audit.Unsound) (xs ys : List audit.Unsound) → first_of xs ≡ Some u → first_of (xs ++ ys) ≡ Some u
-first_stays u [] ys e = absurd (cc)
-first_stays u (x ∷ xs) ys e = e
 
 -- what is refused is refused whatever comes after
 pub refused_first : (r : OpenRefusal) (xs ys : List audit.Unsound) → Reports (Err r) xs → Reports (Err r) (xs ++ ys)
@@ -56,10 +53,6 @@ pub deep_reported : (depth : ℕ) (r : OpenRefusal) (rest : List audit.Unsound) 
 deep_reported depth r rest deep e =
     subst (λ x. Reports (Err x) (unless (nat_lt depth 64) too_deep ++ rest)) (sym e)
     (audit.too_deep, refl, ap (λ b. first_of (unless b too_deep ++ rest)) (le-ltb depth 64 deep))
-
--- where the container itself has no fault, those in it are its faults
-pub inside : (depth inner : ℕ) (r : Result (Unit {0}) OpenRefusal) (all rest : List audit.Unsound) → inner ≡ depth + 1 → inner ≤ 64 → all ≡ unless (nat_lt depth 64) too_deep ++ rest → Reports r rest → Reports r all
-inside depth inner r all rest e low is h = reports_as r (is ∙ ap (λ x. x ++ rest) (not_deep depth inner e low)) h
 
 -- ---- a part in a part
 
@@ -87,31 +80,77 @@ module _ (bytes : List ℕ) (depth : ℕ) where
     pub deep_list : Audits bytes depth (part_of list_here pos) (Err r)
     deep_list = λ v walk h. let l = list_walk bytes pos h in own_reported r walk deep e (record { rest = flat_map (faults bytes) l.runs; faults_are = l.faults_are })
 
+    pub deep_whole : Audits bytes depth (part_of whole_here pos) (Err r)
+    deep_whole = λ v walk h. let w = whole_walk bytes pos h in own_reported r walk deep e (record { rest = faults bytes w.run; faults_are = w.faults_are })
+
     pub deep_map : HasValue map_shape knows_pairs bytes pos → Audits bytes depth (at pos map_shape) (Err r)
     deep_map has = λ v walk h.
         let m : IsMapOf text node_shape (λ _. ⊤) KnowsNode bytes 5 pos has.value = tree_of_value has in
         let w = map_in bytes m.map h in
         own_reported r walk deep e (record { rest = unless (ascend (item_keys (members v))) keys_not_ascending ++ flat_map (faults bytes) w.runs; faults_are = w.faults_are })
 
-  -- ---- options
+-- ---- options
 
-  module _ (inner pos : ℕ) (deeper : inner ≡ depth + 1) (low : inner ≤ 64) (has : HasValue (option Boxed) KnowsNode bytes pos) where
-    pub none_audited : IsNoneAt Boxed KnowsNode bytes pos → Audits bytes depth (part_of option_here pos) (Ok tt)
-    none_audited none = λ v walk h. none_faults bytes has h none ∙ not_deep depth inner deeper low
+module _ (bytes : List ℕ) (pos : ℕ) (has : HasValue (option Boxed) KnowsNode bytes pos) where
+  pub none_height : IsNoneAt Boxed KnowsNode bytes pos → HasHeight bytes (part_of option_here pos) 1
+  none_height none =
+      around_high bytes (part_of option_here pos) 0
+      (λ depth v walk w. record {
+        rest = [];
+        faults_are = none_faults bytes has w none ∙ sym (append-nil (unless (nat_lt depth 64) too_deep));
+        high = λ less. flat_high (depth + 1) (omega (arith, less));
+      })
 
-    pub some_audited : (r : Result (Unit {0}) OpenRefusal) (next : ℕ) → IsSomeAt Boxed KnowsNode bytes pos → PointsTo bytes (pos + 4) next → Audits bytes inner (part_of node_here next) r → Audits bytes depth (part_of option_here pos) r
-    some_audited r next some points told = λ v walk h.
-        let d = some_in bytes has h some points in
-        inside depth inner r (faults bytes walk) (faults bytes d.run) deeper low d.faults_are (told d.value d.run (subst (λ n. Walks node_names bytes n (part_of node_here next) d.value d.run) (sym deeper) d.walked))
+  module _ (next : ℕ) (some : IsSomeAt Boxed KnowsNode bytes pos) (points : PointsTo bytes (pos + 4) next) where
+    pub some_height : (height : ℕ) → HasHeight bytes (part_of node_here next) height → HasHeight bytes (part_of option_here pos) (height + 1)
+    some_height height is =
+        around_high bytes (part_of option_here pos) height
+        (λ depth v walk w. let d = some_in bytes has w some points in record {
+          rest = faults bytes d.run;
+          faults_are = d.faults_are;
+          high = λ less. high_at bytes is (omega (arith, less)) d.walked;
+        })
 
-  -- ---- lists
+    pub some_refused : (r : OpenRefusal) (depth inner : ℕ) → inner ≡ depth + 1 → inner ≤ 64 → Audits bytes inner (part_of node_here next) (Err r) → Audits bytes depth (part_of option_here pos) (Err r)
+    some_refused r depth inner deeper low told = λ v walk w.
+        let d = some_in bytes has w some points in
+        reports_as (Err r) (d.faults_are ∙ ap (λ x. x ++ faults bytes d.run) (not_deep depth inner deeper low))
+        (told d.value d.run (subst (λ n. Walks node_names bytes n (part_of node_here next) d.value d.run) (sym deeper) d.walked))
 
-  module _ (inner pos to len : ℕ) (deeper : inner ≡ depth + 1) (low : inner ≤ 64) (has : HasValue (vector node_shape) KnowsNode bytes pos) (vec : IsVecAt node_shape KnowsNode bytes pos to len) where
-    pub list_audited : (r : Result (Unit {0}) OpenRefusal) → ((vs : Values) (runs : List (List Stop)) → WalkAll node_names bytes inner (elements to len node_shape) vs runs → Reports r (flat_map (faults bytes) runs)) → Audits bytes depth (part_of list_here pos) r
-    list_audited r told = λ v walk h.
-        let l = vector_in bytes has vec h in
-        inside depth inner r (faults bytes walk) (flat_map (faults bytes) l.runs) deeper low l.faults_are
-        (told l.vs l.runs (subst (λ n. WalkAll node_names bytes n (elements to len node_shape) l.vs l.runs) (sym deeper) l.nodes))
+-- ---- wholes
+
+module _ (bytes : List ℕ) (pos next : ℕ) (points : PointsTo bytes pos next) where
+  pub whole_height : (height : ℕ) → HasHeight bytes (part_of node_here next) height → HasHeight bytes (part_of whole_here pos) (height + 1)
+  whole_height height is =
+      around_high bytes (part_of whole_here pos) height
+      (λ depth v walk w. let d = whole_in bytes w points in record {
+        rest = faults bytes d.run;
+        faults_are = d.faults_are;
+        high = λ less. high_at bytes is (omega (arith, less)) d.walked;
+      })
+
+  pub whole_refused : (r : OpenRefusal) (depth inner : ℕ) → inner ≡ depth + 1 → inner ≤ 64 → Audits bytes inner (part_of node_here next) (Err r) → Audits bytes depth (part_of whole_here pos) (Err r)
+  whole_refused r depth inner deeper low told = λ v walk w.
+      let d = whole_in bytes w points in
+      reports_as (Err r) (d.faults_are ∙ ap (λ x. x ++ faults bytes d.run) (not_deep depth inner deeper low))
+      (told d.value d.run (subst (λ n. Walks node_names bytes n (part_of node_here next) d.value d.run) (sym deeper) d.walked))
+
+  -- around a node of which the height is known
+  pub around_found : (r : Result ℕ OpenRefusal) (height depth : ℕ) → depth ≤ 64 → HasHeight bytes (part_of node_here next) height
+      → MatchResult r (λ around. (around ≡ height + 1) × (depth + around ≤ 64)) (λ why. (64 < depth + (height + 1)) × (why ≡ refusal.TooDeep))
+      → AuditsTo bytes depth (part_of whole_here pos) r
+  around_found (Ok around) height depth low is h = (h.1, subst (HasHeight bytes (part_of whole_here pos)) (sym h.0) (whole_height height is))
+  around_found (Err why) height depth low is h = inr (past_refused bytes (part_of whole_here pos) (height + 1) depth (whole_height height is) low h.0 why h.1)
+
+-- what is refused in a part is refused of the part
+pub refused_on : {bytes : List ℕ} {depth inner : ℕ} {p q : Part} (r : OpenRefusal) → (Audits bytes inner q (Err r) → Audits bytes depth p (Err r)) → AuditsTo bytes inner q (Err r) → AuditsTo bytes depth p (Err r)
+refused_on r on (inl e) = inl e
+refused_on r on (inr told) = inr (on told)
+
+-- what is found of a payload is found of its node
+pub found_in : (bytes : List ℕ) (depth : ℕ) {p q : Part} (r : Result ℕ OpenRefusal) → ((depth : ℕ) (v : Value) (walk : List Stop) → Walks node_names bytes depth p v walk → Inner bytes depth q walk) → AuditsTo bytes depth q r → AuditsTo bytes depth p r
+found_in bytes depth (Ok height) inner h = (h.0, height_in bytes height inner h.1)
+found_in bytes depth (Err r) inner h = refused_on r (audited_in bytes depth (Err r) (λ v walk w. inner depth v walk w)) h
 
 -- the same bytes at the same place
 pub audits_as : {x y : Bor (List ℕ)} {pos to : ℕ} (depth : ℕ) (s : Shape) (r : Result (Unit {0}) OpenRefusal) → x ≡ y → pos ≡ to → Audits x.now depth (at pos s) r → Audits y.now depth (at to s) r
@@ -128,9 +167,9 @@ pub behind_tag : (pos : ℕ) → some_position Boxed pos ≡ pos + 4
 unfolding align_up
 behind_tag pos = refl
 
--- a leaf has no fault
-pub leaf_audited : (bytes : List ℕ) (depth pos : ℕ) → slice_index bytes pos ≤ 3 → Audits bytes depth (part_of node_here pos) (Ok tt)
-leaf_audited bytes depth pos low = λ v walk h. leaf_faults bytes h low
+-- a leaf is not high
+pub leaf_height : (bytes : List ℕ) (pos : ℕ) → slice_index bytes pos ≤ 3 → HasHeight bytes (part_of node_here pos) 0
+leaf_height bytes pos low = flat_height bytes (part_of node_here pos) (λ depth v walk h. leaf_faults bytes h low)
 
 -- ---- elements
 
@@ -147,48 +186,81 @@ module _ (bytes : List ℕ) where
   rest_runs (run ∷ runs) zero less = refl
   rest_runs (run ∷ runs) (suc i) less = rest_runs runs i (omega (arith, less))
 
-  past_runs : (runs : List (List Stop)) (i : ℕ) → length runs ≤ i → flat_map (faults bytes) (drop i runs) ≡ []
-  past_runs [] zero most = refl
-  past_runs [] (suc i) most = refl
-  past_runs (run ∷ runs) zero most = absurd (omega (arith, most))
-  past_runs (run ∷ runs) (suc i) most = past_runs runs i (omega (arith, most))
+  split_runs : (runs : List (List Stop)) (i : ℕ) → flat_map (faults bytes) runs ≡ flat_map (faults bytes) (take i runs) ++ flat_map (faults bytes) (drop i runs)
+  split_runs runs zero = refl
+  split_runs [] (suc i) = refl
+  split_runs (run ∷ runs) (suc i) =
+      ap (λ x. faults bytes run ++ x) (split_runs runs i)
+      ∙ sym (append_assoc (faults bytes run) (flat_map (faults bytes) (take i runs)) (flat_map (faults bytes) (drop i runs)))
 
-  module _ (depth start len : ℕ) where
-    -- the nodes before index i have no fault
-    abbrev pub AreSoundBefore : ℕ → Type 0
-    AreSoundBefore i =
-        (vs : Values) (runs : List (List Stop))
+  next_runs : (runs : List (List Stop)) (i : ℕ) → i < length runs → flat_map (faults bytes) (take (suc i) runs) ≡ flat_map (faults bytes) (take i runs) ++ faults bytes (get_or runs i [])
+  next_runs [] i less = absurd (omega (arith, less))
+  next_runs (run ∷ runs) zero less = append-nil (faults bytes run)
+  next_runs (run ∷ runs) (suc i) less =
+      ap (λ x. faults bytes run ++ x) (next_runs runs i (omega (arith, less)))
+      ∙ sym (append_assoc (faults bytes run) (flat_map (faults bytes) (take i runs)) (faults bytes (get_or runs i [])))
+
+  all_runs : (runs : List (List Stop)) (i : ℕ) → length runs ≤ i → flat_map (faults bytes) (take i runs) ≡ flat_map (faults bytes) runs
+  all_runs [] zero most = refl
+  all_runs [] (suc i) most = refl
+  all_runs (run ∷ runs) zero most = absurd (omega (arith, most))
+  all_runs (run ∷ runs) (suc i) most = ap (λ x. faults bytes run ++ x) (all_runs runs i (omega (arith, most)))
+
+  module _ (start len : ℕ) where
+    abbrev pub node_part : ℕ → Part
+    node_part i = part_of node_here (start + i * size_of node_shape)
+
+    -- the highest node before index i is so high
+    abbrev pub AreHighBefore : (height i : ℕ) → Type 0
+    AreHighBefore height i =
+        (depth : ℕ) (vs : Values) (runs : List (List Stop))
+        → depth ≤ 64
         → WalkAll node_names bytes depth (elements start len node_shape) vs runs
-        → flat_map (faults bytes) runs ≡ flat_map (faults bytes) (drop i runs)
+        → AreAsHigh depth height (flat_map (faults bytes) (take i runs))
 
-    -- a fault is reported of the node at an index
-    abbrev pub ReportsAt : ℕ → Result (Unit {0}) OpenRefusal → Type 0
-    ReportsAt i r = Audits bytes depth (part_of node_here (start + i * size_of node_shape)) r
+    pub none_before : AreHighBefore 0 0
+    none_before = λ depth vs runs low all. flat_high depth low
 
-    module _ (i : ℕ) (less : i < len) (before : AreSoundBefore i) where
-      from : (vs : Values) (runs : List (List Stop)) → WalkAll node_names bytes depth (elements start len node_shape) vs runs
-          → flat_map (faults bytes) runs ≡ faults bytes (get_or runs i []) ++ flat_map (faults bytes) (drop (suc i) runs)
-      from vs runs all =
+    module _ (height i : ℕ) (less : i < len) (before : AreHighBefore height i) where
+      pub high_on : (other next : ℕ) → next ≡ i + 1 → HasHeight bytes (node_part i) other → AreHighBefore (max height other) next
+      high_on other next is high = λ depth vs runs low all.
+          let e = element_walk node_names bytes node_shape i len less all in
           let count = element_count node_names bytes node_shape len start all in
-          before vs runs all ∙ rest_runs runs i (omega (arith, less, count))
+          let more : suc i ≡ next = omega (arith, is) in
+          subst (AreAsHigh depth (max height other)) (sym (next_runs runs i (omega (arith, less, count))) ∙ ap (λ n. flat_map (faults bytes) (take n runs)) more)
+          (both_high depth height other (flat_map (faults bytes) (take i runs)) (faults bytes (get_or runs i [])) (before depth vs runs low all) (high_at bytes high low e.walk))
 
-      pub sound_on : ReportsAt i (Ok tt) → AreSoundBefore (i + 1)
-      sound_on none = λ vs runs all.
+      pub refused_at : (depth : ℕ) → depth + height ≤ 64 → (r : OpenRefusal) → Audits bytes depth (node_part i) (Err r)
+          → (vs : Values) (runs : List (List Stop)) → WalkAll node_names bytes depth (elements start len node_shape) vs runs → Reports (Err r) (flat_map (faults bytes) runs)
+      refused_at depth low r told vs runs all =
           let e = element_walk node_names bytes node_shape i len less all in
-          let next : suc i ≡ i + 1 = omega arith in
-          from vs runs all
-          ∙ ap (λ x. x ++ flat_map (faults bytes) (drop (suc i) runs)) (none e.value (get_or runs i []) e.walk)
-          ∙ ap (λ n. flat_map (faults bytes) (drop n runs)) next
+          let count = element_count node_names bytes node_shape len start all in
+          let none = (before depth vs runs (omega (arith, low)) all).0 low in
+          reports_as (Err r)
+          (split_runs runs i ∙ ap (λ x. x ++ flat_map (faults bytes) (drop i runs)) none ∙ rest_runs runs i (omega (arith, less, count)))
+          (refused_first r (faults bytes (get_or runs i [])) (flat_map (faults bytes) (drop (suc i) runs)) (told e.value (get_or runs i []) e.walk))
 
-      pub refused_at : (r : OpenRefusal) → ReportsAt i (Err r) → (vs : Values) (runs : List (List Stop)) → WalkAll node_names bytes depth (elements start len node_shape) vs runs → Reports (Err r) (flat_map (faults bytes) runs)
-      refused_at r told vs runs all =
-          let e = element_walk node_names bytes node_shape i len less all in
-          reports_as (Err r) (from vs runs all) (refused_first r (faults bytes (get_or runs i [])) (flat_map (faults bytes) (drop (suc i) runs)) (told e.value (get_or runs i []) e.walk))
+  -- ---- lists
 
-    pub sound_all : (n : ℕ) → len ≤ n → AreSoundBefore n → (vs : Values) (runs : List (List Stop)) → WalkAll node_names bytes depth (elements start len node_shape) vs runs → flat_map (faults bytes) runs ≡ []
-    sound_all n most before vs runs all =
-        let count = element_count node_names bytes node_shape len start all in
-        before vs runs all ∙ past_runs runs n (omega (arith, most, count))
+  module _ (pos to len : ℕ) (has : HasValue (vector node_shape) KnowsNode bytes pos) (vec : IsVecAt node_shape KnowsNode bytes pos to len) where
+    pub list_height : (height n : ℕ) → len ≤ n → AreHighBefore to len height n → HasHeight bytes (part_of list_here pos) (height + 1)
+    list_height height n most all =
+        around_high bytes (part_of list_here pos) height
+        (λ depth v walk w.
+        let l = vector_in bytes has vec w in
+        let count = element_count node_names bytes node_shape len to l.nodes in record {
+          rest = flat_map (faults bytes) l.runs;
+          faults_are = l.faults_are;
+          high = λ less. subst (AreAsHigh (depth + 1) height) (all_runs l.runs n (omega (arith, most, count))) (all (depth + 1) l.vs l.runs (omega (arith, less)) l.nodes);
+        })
+
+    pub list_refused : (r : OpenRefusal) (depth inner : ℕ) → inner ≡ depth + 1 → inner ≤ 64
+        → ((vs : Values) (runs : List (List Stop)) → WalkAll node_names bytes inner (elements to len node_shape) vs runs → Reports (Err r) (flat_map (faults bytes) runs))
+        → Audits bytes depth (part_of list_here pos) (Err r)
+    list_refused r depth inner deeper low told = λ v walk w.
+        let l = vector_in bytes has vec w in
+        reports_as (Err r) (l.faults_are ∙ ap (λ x. x ++ flat_map (faults bytes) l.runs) (not_deep depth inner deeper low))
+        (told l.vs l.runs (subst (λ n. WalkAll node_names bytes n (elements to len node_shape) l.vs l.runs) (sym deeper) l.nodes))
 
 -- ---- entries
 
@@ -197,45 +269,53 @@ abbrev pub IsNodeOf : Bor (List ℕ) → Ref ArchivedNode → Type 0
 IsNodeOf bytes r = (r.bytes ≡ bytes) × HasValue node_shape KnowsNode r.bytes.now r.pos
 
 module _ (bytes : Bor (List ℕ)) where
-  -- the walks of the nodes that are left, whose faults are all that are left
-  pub record AreLeft (depth : ℕ) (left : List (Ref ArchivedNode)) (rest : List audit.Unsound) : Type 0 where
+  -- the walks of the nodes that are left: their faults come behind those of others, of which the highest is so high
+  pub record AreLeft (depth height : ℕ) (left : List (Ref ArchivedNode)) (all : List audit.Unsound) : Type 0 where
     pub places : List Place
     pub vs : Values
     pub runs : List (List Stop)
+    pub before : List audit.Unsound
     pub left_are : left ≡ map (value_at bytes) places
     pub items : ItemsWalk node_names bytes.now text node_shape depth places vs runs
-    pub faults_are : rest ≡ flat_map (faults bytes.now) runs
+    pub high : AreAsHigh depth height before
+    pub faults_are : all ≡ before ++ flat_map (faults bytes.now) runs
 
   -- the first of them, and the others
   record FirstLeft (depth : ℕ) (r : Ref ArchivedNode) (others : List (Ref ArchivedNode)) (rest : List audit.Unsound) : Type 0 where
     value : Value
     run : List Stop
     first : Walks node_names bytes.now depth (part_of node_here r.pos) value run
-    later : List audit.Unsound
-    rest_is : rest ≡ faults bytes.now run ++ later
-    left : AreLeft depth others later
+    places : List Place
+    vs : Values
+    runs : List (List Stop)
+    left_are : others ≡ map (value_at bytes) places
+    items : ItemsWalk node_names bytes.now text node_shape depth places vs runs
+    rest_is : rest ≡ faults bytes.now run ++ flat_map (faults bytes.now) runs
 
-  first_of_items : {depth : ℕ} {r : Ref ArchivedNode} {others : List (Ref ArchivedNode)} {rest : List audit.Unsound} {places : List Place} {vs : Values} {runs : List (List Stop)}
-      → r ∷ others ≡ map (value_at bytes) places → rest ≡ flat_map (faults bytes.now) runs
-      → ItemsWalk node_names bytes.now text node_shape depth places vs runs → FirstLeft depth r others rest
-  first_of_items e f (no_items a b c) = let x = e ∙ ap (map (value_at bytes)) a in absurd (cc)
-  first_of_items {depth = depth} {r = r} e f (more_items {p = p} {ps = ps} {y = y} {vs = vs} {run = run} {later = later} a b c k n all) =
+  first_of_items : {depth : ℕ} {r : Ref ArchivedNode} {others : List (Ref ArchivedNode)} {places : List Place} {vs : Values} {runs : List (List Stop)}
+      → r ∷ others ≡ map (value_at bytes) places → ItemsWalk node_names bytes.now text node_shape depth places vs runs → FirstLeft depth r others (flat_map (faults bytes.now) runs)
+  first_of_items e (no_items a b c) = let x = e ∙ ap (map (value_at bytes)) a in absurd (cc)
+  first_of_items {depth = depth} {r = r} e (more_items {p = p} {ps = ps} {y = y} {vs = vs} {run = run} {later = later} a b c k n all) =
       let x = e ∙ ap (map (value_at bytes)) a in
       let here : r ≡ value_at bytes p = cc in
       record {
         value = y;
         run = run;
         first = subst (λ n. Walks node_names bytes.now depth (part_of node_here n) y run) (ap (λ (q : Ref ArchivedNode). q.pos) (sym here)) n;
-        later = flat_map (faults bytes.now) later;
-        rest_is = f ∙ ap (flat_map (faults bytes.now)) c;
-        left = record { places = ps; vs = vs; runs = later; left_are = cc; items = all; faults_are = refl };
+        places = ps;
+        vs = vs;
+        runs = later;
+        left_are = cc;
+        items = all;
+        rest_is = ap (flat_map (faults bytes.now)) c;
       }
 
-  first_left : {depth : ℕ} {left : List (Ref ArchivedNode)} {r : Ref ArchivedNode} {others : List (Ref ArchivedNode)} {rest : List audit.Unsound} → left ≡ r ∷ others → AreLeft depth left rest → FirstLeft depth r others rest
-  first_left e a = first_of_items (sym e ∙ a.left_are) a.faults_are a.items
+  first_left : {depth height : ℕ} {left : List (Ref ArchivedNode)} {r : Ref ArchivedNode} {others : List (Ref ArchivedNode)} {all : List audit.Unsound} → left ≡ r ∷ others → (a : AreLeft depth height left all) → FirstLeft depth r others (flat_map (faults bytes.now) a.runs)
+  first_left e a = first_of_items (sym e ∙ a.left_are) a.items
 
-  none_left : {depth : ℕ} {left : List (Ref ArchivedNode)} {rest : List audit.Unsound} → left ≡ [] → AreLeft depth left rest → rest ≡ []
-  none_left e a = a.faults_are ∙ by (sym e ∙ a.left_are) a.items
+  none_left : {depth height : ℕ} {left : List (Ref ArchivedNode)} {all : List audit.Unsound} → left ≡ [] → AreLeft depth height left all → AreAsHigh depth height all
+  none_left {depth = depth} {height = height} e a =
+      subst (AreAsHigh depth height) (sym (append-nil a.before) ∙ ap (λ x. a.before ++ x) (sym (by (sym e ∙ a.left_are) a.items)) ∙ sym a.faults_are) a.high
     where
       by : {depth : ℕ} {places : List Place} {vs : Values} {runs : List (List Stop)} → [] ≡ map (value_at bytes {V = ArchivedNode}) places → ItemsWalk node_names bytes.now text node_shape depth places vs runs → flat_map (faults bytes.now) runs ≡ []
       by e (no_items a b c) = ap (flat_map (faults bytes.now)) c
@@ -243,25 +323,48 @@ module _ (bytes : Bor (List ℕ)) where
 
   -- ---- maps
 
-  -- nodes are left of a map, and it has their faults and no others
-  abbrev pub IsLeft : (depth inner : ℕ) → Part → List (Ref ArchivedNode) → Type 0
-  IsLeft depth inner p left = (v : Value) (walk : List Stop) → Walks node_names bytes.now depth p v walk → AreLeft inner left (faults bytes.now walk)
+  -- nodes are left of a map, and its faults are those of others, of which the highest is so high, and then theirs
+  abbrev pub IsLeft : Part → (height : ℕ) → List (Ref ArchivedNode) → Type 0
+  IsLeft p height left = (depth : ℕ) (v : Value) (walk : List Stop) → depth < 64 → Walks node_names bytes.now depth p v walk → AreLeft (depth + 1) height left (faults bytes.now walk)
 
-  module _ (depth inner : ℕ) (p : Part) where
-    module _ {left : List (Ref ArchivedNode)} {r : Ref ArchivedNode} {others : List (Ref ArchivedNode)} (e : left ≡ r ∷ others) (is : IsLeft depth inner p left) where
-      -- of one without a fault, the others are left
-      pub left_on : Audits bytes.now inner (part_of node_here r.pos) (Ok tt) → IsLeft depth inner p others
-      left_on none = λ v walk h.
-          let f = first_left e (is v walk h) in
-          subst (AreLeft inner others) (sym (f.rest_is ∙ ap (λ x. x ++ f.later) (none f.value f.run f.first))) f.left
+  module _ (p : Part) (height : ℕ) where
+    module _ {left : List (Ref ArchivedNode)} {r : Ref ArchivedNode} {others : List (Ref ArchivedNode)} (e : left ≡ r ∷ others) (is : IsLeft p height left) where
+      -- after one that is so high, the others are left
+      pub left_on : (other : ℕ) → HasHeight bytes.now (part_of node_here r.pos) other → IsLeft p (max height other) others
+      left_on other high = λ depth v walk less w.
+          let a = is depth v walk less w in
+          let f = first_left e a in
+          record {
+            places = f.places;
+            vs = f.vs;
+            runs = f.runs;
+            before = a.before ++ faults bytes.now f.run;
+            left_are = f.left_are;
+            items = f.items;
+            high = both_high (depth + 1) height other a.before (faults bytes.now f.run) a.high (high_at bytes.now high (omega (arith, less)) f.first);
+            faults_are = a.faults_are ∙ ap (λ x. a.before ++ x) f.rest_is ∙ sym (append_assoc a.before (faults bytes.now f.run) (flat_map (faults bytes.now) f.runs));
+          }
 
-      pub left_refused : (why : OpenRefusal) → Audits bytes.now inner (part_of node_here r.pos) (Err why) → Audits bytes.now depth p (Err why)
-      left_refused why told = λ v walk h.
-          let f = first_left e (is v walk h) in
-          reports_as (Err why) f.rest_is (refused_first why (faults bytes.now f.run) f.later (told f.value f.run f.first))
+      pub left_refused : (depth inner : ℕ) → inner ≡ depth + 1 → inner + height ≤ 64 → (why : OpenRefusal) → Audits bytes.now inner (part_of node_here r.pos) (Err why) → Audits bytes.now depth p (Err why)
+      left_refused depth inner deeper low why told = λ v walk w.
+          let a = is depth v walk (omega (arith, deeper, low)) w in
+          let f = first_left e a in
+          reports_as (Err why) (a.faults_are ∙ ap₂ (λ x y. x ++ y) (a.high.0 (omega (arith, deeper, low))) f.rest_is)
+          (refused_first why (faults bytes.now f.run) (flat_map (faults bytes.now) f.runs)
+          (told f.value f.run (subst (λ n. Walks node_names bytes.now n (part_of node_here r.pos) f.value f.run) (sym deeper) f.first)))
 
-    pub left_none : {left : List (Ref ArchivedNode)} → left ≡ [] → IsLeft depth inner p left → Audits bytes.now depth p (Ok tt)
-    left_none e is = λ v walk h. none_left e (is v walk h)
+    -- a map with its own fault first
+    pub left_height : {left : List (Ref ArchivedNode)} → left ≡ [] → IsLeft p height left
+        → ((depth : ℕ) (v : Value) (walk : List Stop) → Walks node_names bytes.now depth p v walk → HasOwn bytes.now depth walk) → HasHeight bytes.now p (height + 1)
+    left_height e is own =
+        around_high bytes.now p height
+        (λ depth v walk w. let o = own depth v walk w in record {
+          rest = o.rest;
+          faults_are = o.faults_are;
+          high = λ less.
+              subst (AreAsHigh (depth + 1) height) (o.faults_are ∙ ap (λ b. unless b too_deep ++ o.rest) (lt-ltb depth 64 less))
+              (none_left e (is depth v walk less w));
+        })
 
   -- nodes stand at all of them
   pub nodes_there : (ps : List Place) (ws : Values) → AreEntriesAt text node_shape (λ _. ⊤) KnowsNode bytes.now ps ws → All (IsNodeOf bytes) (map (value_at bytes) ps)
@@ -271,43 +374,49 @@ module _ (bytes : Bor (List ℕ)) where
 
   -- ---- ordered maps
 
-  module _ (depth inner : ℕ) (deeper : inner ≡ depth + 1) (low : inner ≤ 64) (pos : ℕ) where
-    module _ (has : HasValue map_shape knows_pairs bytes.now pos) where
-      tree : IsMapOf text node_shape (λ _. ⊤) KnowsNode bytes.now 5 pos has.value
-      tree = tree_of_value has
+  module _ (pos : ℕ) (has : HasValue map_shape knows_pairs bytes.now pos) where
+    tree : IsMapOf text node_shape (λ _. ⊤) KnowsNode bytes.now 5 pos has.value
+    tree = tree_of_value has
 
-      -- at first all are
-      pub all_left : (ascends : Bool) (left : List (Ref ArchivedNode)) → ascends ≡ true
-          → ((depth : ℕ) (v : Value) (walk : List Stop) → Walks node_names bytes.now depth (at pos map_shape) v walk → ascends ≡ ascend (item_keys (members v)))
-          → ((t : Tree Place) → IsMapAt bytes.now 5 text node_shape pos t → left ≡ map (value_at bytes) (items t))
-          → IsLeft depth inner (at pos map_shape) left
-      all_left ascends left is_up told values = λ v walk h.
-          let m = map_in bytes.now tree.map h in
-          let up = sym (told depth v walk h) ∙ is_up in
-          record {
-            places = items tree.search_tree;
-            vs = members v;
-            runs = m.runs;
-            left_are = values tree.search_tree tree.map;
-            items = subst (λ n. ItemsWalk node_names bytes.now text node_shape n (items tree.search_tree) (members v) m.runs) (sym deeper) m.items;
-            faults_are =
-                m.faults_are
-                ∙ ap (λ x. x ++ (unless (ascend (item_keys (members v))) keys_not_ascending ++ flat_map (faults bytes.now) m.runs)) (not_deep depth inner deeper low)
-                ∙ ap (λ b. unless b keys_not_ascending ++ flat_map (faults bytes.now) m.runs) up;
-          }
+    -- at first all are
+    pub all_left : (ascends : Bool) (left : List (Ref ArchivedNode)) → ascends ≡ true
+        → ((depth : ℕ) (v : Value) (walk : List Stop) → Walks node_names bytes.now depth (at pos map_shape) v walk → ascends ≡ ascend (item_keys (members v)))
+        → ((t : Tree Place) → IsMapAt bytes.now 5 text node_shape pos t → left ≡ map (value_at bytes) (items t))
+        → IsLeft (at pos map_shape) 0 left
+    all_left ascends left is_up told values = λ depth v walk less w.
+        let m = map_in bytes.now tree.map w in
+        let up = sym (told depth v walk w) ∙ is_up in
+        record {
+          places = items tree.search_tree;
+          vs = members v;
+          runs = m.runs;
+          before = [];
+          left_are = values tree.search_tree tree.map;
+          items = m.items;
+          high = flat_high (depth + 1) (omega (arith, less));
+          faults_are =
+              m.faults_are
+              ∙ ap (λ b. unless b too_deep ++ (unless (ascend (item_keys (members v))) keys_not_ascending ++ flat_map (faults bytes.now) m.runs)) (lt-ltb depth 64 less)
+              ∙ ap (λ b. unless b keys_not_ascending ++ flat_map (faults bytes.now) m.runs) up;
+        }
 
-      -- keys that do not ascend are reported first
-      pub descending : (ascends : Bool) → ascends ≡ false
-          → ((depth : ℕ) (v : Value) (walk : List Stop) → Walks node_names bytes.now depth (at pos map_shape) v walk → ascends ≡ ascend (item_keys (members v)))
-          → Audits bytes.now depth (at pos map_shape) (Err refusal.KeysNotAscending)
-      descending ascends is_down told = λ v walk h.
-          let m = map_in bytes.now tree.map h in
-          let down = sym (told depth v walk h) ∙ is_down in
-          reports_as (Err refusal.KeysNotAscending)
-          (m.faults_are
-          ∙ ap (λ x. x ++ (unless (ascend (item_keys (members v))) keys_not_ascending ++ flat_map (faults bytes.now) m.runs)) (not_deep depth inner deeper low)
-          ∙ ap (λ b. unless b keys_not_ascending ++ flat_map (faults bytes.now) m.runs) down)
-          (keys_not_ascending, refl, refl)
+    pub own_of_map : (depth : ℕ) (v : Value) (walk : List Stop) → Walks node_names bytes.now depth (at pos map_shape) v walk → HasOwn bytes.now depth walk
+    own_of_map depth v walk w =
+        let m = map_in bytes.now tree.map w in
+        record { rest = unless (ascend (item_keys (members v))) keys_not_ascending ++ flat_map (faults bytes.now) m.runs; faults_are = m.faults_are }
 
-      pub all_there : (left : List (Ref ArchivedNode)) → ((t : Tree Place) → IsMapAt bytes.now 5 text node_shape pos t → left ≡ map (value_at bytes) (items t)) → All (IsNodeOf bytes) left
-      all_there left values = subst (All (IsNodeOf bytes)) (sym (values tree.search_tree tree.map)) (nodes_there (items tree.search_tree) (members has.value) tree.entries)
+    -- keys that do not ascend are reported first
+    pub descending : (depth inner : ℕ) → inner ≡ depth + 1 → inner ≤ 64 → (ascends : Bool) → ascends ≡ false
+        → ((depth : ℕ) (v : Value) (walk : List Stop) → Walks node_names bytes.now depth (at pos map_shape) v walk → ascends ≡ ascend (item_keys (members v)))
+        → Audits bytes.now depth (at pos map_shape) (Err refusal.KeysNotAscending)
+    descending depth inner deeper low ascends is_down told = λ v walk h.
+        let m = map_in bytes.now tree.map h in
+        let down = sym (told depth v walk h) ∙ is_down in
+        reports_as (Err refusal.KeysNotAscending)
+        (m.faults_are
+        ∙ ap (λ x. x ++ (unless (ascend (item_keys (members v))) keys_not_ascending ++ flat_map (faults bytes.now) m.runs)) (not_deep depth inner deeper low)
+        ∙ ap (λ b. unless b keys_not_ascending ++ flat_map (faults bytes.now) m.runs) down)
+        (keys_not_ascending, refl, refl)
+
+    pub all_there : (left : List (Ref ArchivedNode)) → ((t : Tree Place) → IsMapAt bytes.now 5 text node_shape pos t → left ≡ map (value_at bytes) (items t)) → All (IsNodeOf bytes) left
+    all_there left values = subst (All (IsNodeOf bytes)) (sym (values tree.search_tree tree.map)) (nodes_there (items tree.search_tree) (members has.value) tree.entries)

@@ -22,13 +22,14 @@ done_if : (b : Bool) → (if b then done else refused) ≡ done → b ≡ true
 done_if true e = refl
 done_if false e = absurd (cc)
 
-record DoneThere (found : Option Tree) (new : Leaf) : Type 0 where
+record DoneThere (found : Option Tree) (b : Bool) (new : Leaf) : Type 0 where
   pub old : Leaf
   pub there : found ≡ Some (leaf old)
+  pub outside : b ≡ false
   pub fitting : fits old new ≡ true
 
-done_at_leaf : (u : Tree) (new : Leaf) → outcome_there new u ≡ done → DoneThere (Some u) new
-done_at_leaf (leaf old) new e = record { old = old; there = refl; fitting = done_if (fits old new) e }
+done_at_leaf : (u : Tree) (new : Leaf) → outcome_there new u ≡ done → DoneThere (Some u) false new
+done_at_leaf (leaf old) new e = record { old = old; there = refl; outside = refl; fitting = done_if (fits old new) e }
 done_at_leaf (shared s) new e = absurd (cc)
 done_at_leaf nothing new e = absurd (cc)
 done_at_leaf (just t) new e = absurd (cc)
@@ -37,7 +38,7 @@ done_at_leaf (map kind ps) new e = absurd (cc)
 done_at_leaf (whole t) new e = absurd (cc)
 
 -- not in a whole
-done_there : (found : Option Tree) (b : Bool) (new : Leaf) → if_there found (λ u. if b then refused else outcome_there new u) ≡ done → DoneThere found new
+done_there : (found : Option Tree) (b : Bool) (new : Leaf) → if_there found (λ u. if b then refused else outcome_there new u) ≡ done → DoneThere found b new
 done_there None b new e = absurd (cc)
 done_there (Some u) true new e = absurd (cc)
 done_there (Some u) false new e = done_at_leaf u new e
@@ -45,7 +46,7 @@ done_there (Some u) false new e = done_at_leaf u new e
 pub done_at : (t : Tree) (path : List Step) (new : Leaf) → answer t (set path new) ≡ done → IsDone t path new
 done_at t path new e =
     let d = done_there (node_at t path) (enters t path) new e in
-    record { old = d.old; there = d.there; fitting = d.fitting }
+    record { old = d.old; there = d.there; outside = d.outside; fitting = d.fitting }
 
 -- ---- what is true of a document before and after
 

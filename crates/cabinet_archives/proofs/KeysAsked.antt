@@ -7,7 +7,7 @@ use Rattle.archive_shape.specs.ShapeLayout.Content.{Names, members}
 use Rattle.cabinet_text_nodes.specs.TextGrammar.Tree.{Tree, Pairs}
 use Rattle.cabinet_text_nodes.specs.TextGrammar.Answering.{keys_in, keys_are, keys_of, keys_within, lies_within, wrong}
 use Rattle.cabinet_archived.specs.Documents.Denotes.{Denotes, DenotePairs, tagged_value}
-use Rattle.cabinet_archived.specs.Documents.Denotes.Denotes.{denotes_truth, denotes_number, denotes_text, denotes_shared, denotes_nothing, denotes_some, denotes_list, denotes_ordered, denotes_hashed, denotes_kept}
+use Rattle.cabinet_archived.specs.Documents.Denotes.Denotes.{denotes_truth, denotes_number, denotes_text, denotes_shared, denotes_nothing, denotes_some, denotes_list, denotes_ordered, denotes_hashed, denotes_kept, denotes_whole}
 use Rattle.cabinet_archived.specs.Documents.Denotes.DenotePairs.{denote_no_pairs, denote_pair}
 use Rattle.cabinet_archived.specs.Documents.Table.{item_keys}
 use Rattle.cabinet_archived.specs.Kind.{IsTagged, IsKindAt}
@@ -24,13 +24,13 @@ pair_keys (denote_pair {k = k} e f d ds) = ap keys_in f ∙ ap (λ ks. k ∷ ks)
 
 module _ {v w : Value} {t : Tree} where
   pub ordered_keys : v ≡ tagged_value 6 w → Denotes v t → keys_of t ≡ keys_are (item_keys (members w))
-  ordered_keys e d = let o = map_by e (omega arith) d in ap keys_of o.is ∙ ap keys_are (pair_keys o.denotes)
+  ordered_keys e d = let o = map_by e (omega arith) (omega arith) d in ap keys_of o.is ∙ ap keys_are (pair_keys o.denotes)
 
   pub ordered_range : v ≡ tagged_value 6 w → Denotes v t → (low high : List ℕ) → keys_within low high t ≡ keys_are (filter (lies_within low high) (item_keys (members w)))
-  ordered_range e d low high = let o = map_by e (omega arith) d in ap (keys_within low high) o.is ∙ ap (λ ks. keys_are (filter (lies_within low high) ks)) (pair_keys o.denotes)
+  ordered_range e d low high = let o = map_by e (omega arith) (omega arith) d in ap (keys_within low high) o.is ∙ ap (λ ks. keys_are (filter (lies_within low high) ks)) (pair_keys o.denotes)
 
   pub kept_keys : v ≡ tagged_value 8 w → Denotes v t → keys_of t ≡ keys_are (item_keys (members w))
-  kept_keys e d = let o = map_by e (omega arith) d in ap keys_of o.is ∙ ap keys_are (pair_keys o.denotes)
+  kept_keys e d = let o = map_by e (omega arith) (omega arith) d in ap keys_of o.is ∙ ap keys_are (pair_keys o.denotes)
 
 -- ---- of other nodes
 
@@ -51,6 +51,7 @@ no_range e other (denotes_list f g d) low high = ap (keys_within low high) g
 no_range {tag = tag} e other (denotes_ordered f g d) low high = let n : tag ≡ 6 = cc in absurd (other n)
 no_range e other (denotes_hashed f g d) low high = ap (keys_within low high) g
 no_range e other (denotes_kept f g d) low high = ap (keys_within low high) g
+no_range e other (denotes_whole f g d) low high = ap (keys_within low high) g
 
 no_keys : {v w : Value} {t : Tree} {tag : ℕ} → v ≡ tagged_value tag w → (tag ≡ 6 → ⊥) → (tag ≡ 8 → ⊥) → Denotes v t → HasNoKeys t
 no_keys e other unkept (denotes_truth f g) = ap keys_of g
@@ -63,6 +64,7 @@ no_keys e other unkept (denotes_list f g d) = ap keys_of g
 no_keys {tag = tag} e other unkept (denotes_ordered f g d) = let n : tag ≡ 6 = cc in absurd (other n)
 no_keys e other unkept (denotes_hashed f g d) = ap keys_of g
 no_keys {tag = tag} e other unkept (denotes_kept f g d) = let n : tag ≡ 8 = cc in absurd (unkept n)
+no_keys e other unkept (denotes_whole f g d) = ap keys_of g
 
 module _ (bytes : Bor (List ℕ)) (pos : ℕ) where
   abbrev IsOther : ℕ → Type 0
@@ -84,6 +86,7 @@ module _ (bytes : Bor (List ℕ)) (pos : ℕ) where
   keyless_kind (kind.Ordered r) is other unkept = absurd (other r refl)
   keyless_kind (kind.Hashed r) is other unkept = keyless 7 (λ e. absurd (omega (arith, e)), λ e. absurd (omega (arith, e))) is.2
   keyless_kind (kind.Kept r) is other unkept = absurd (unkept r refl)
+  keyless_kind (kind.Whole r) is other unkept = keyless 9 (λ e. absurd (omega (arith, e)), λ e. absurd (omega (arith, e))) is.2
 
   pub rangeless_kind : (k : ArchivedKind) → IsKindAt bytes pos k → ((r : _) → k ≡ kind.Ordered r → ⊥) → OfDocument bytes.now pos HasNoRange
   rangeless_kind (kind.Bool r) is other = unordered 0 (λ e. absurd (omega (arith, e))) is.2
@@ -95,3 +98,4 @@ module _ (bytes : Bor (List ℕ)) (pos : ℕ) where
   rangeless_kind (kind.Ordered r) is other = absurd (other r refl)
   rangeless_kind (kind.Hashed r) is other = unordered 7 (λ e. absurd (omega (arith, e))) is.2
   rangeless_kind (kind.Kept r) is other = unordered 8 (λ e. absurd (omega (arith, e))) is.2
+  rangeless_kind (kind.Whole r) is other = unordered 9 (λ e. absurd (omega (arith, e))) is.2

@@ -1,5 +1,5 @@
 -- The leaf at a path: the position of its node, by the steps of the path, and that of the bytes that encode it.
-use Rattle.std.proofs.Common.{◌≡◌, ℕ, ℤ, ◌+◌, Bool, true, List, [], ◌∷◌, ◌++◌, length, Some, w64, refl, sym, ap, subst, ◌∙◌, arith, ◌⊎◌, inl, inr}
+use Rattle.std.proofs.Common.{◌≡◌, ℕ, ℤ, ◌+◌, Bool, true, false, List, [], ◌∷◌, ◌++◌, length, Some, w64, refl, sym, ap, subst, ◌∙◌, arith, ◌⊎◌, inl, inr}
 use Rattle.archive_shape.specs.ShapeLayout.Bytes.{window, align_up}
 use Rattle.archive_shape.specs.ShapeLayout.Shape.Shape.{truth, number, text, option, box, vector}
 use Rattle.archive_shape.specs.ShapeLayout.Shape.Pointee.{sized, str}
@@ -19,15 +19,15 @@ use Rattle.archive_forms_values.specs.Parts.{PointsTo}
 use Rattle.cabinet_text_nodes.specs.TextGrammar.Keys.{ordered, hashed, kept}
 use Rattle.cabinet_text_nodes.specs.TextGrammar.Tree as document
 use Rattle.cabinet_text_nodes.specs.TextGrammar.Tree.{Leaf, Tree, leaf, IsLegal}
-use Rattle.cabinet_text_nodes.specs.TextGrammar.Path.{Step, key, place, inside, node_at}
+use Rattle.cabinet_text_nodes.specs.TextGrammar.Path.{Step, key, place, inside, node_at, enters}
 use Rattle.cabinet_archived.specs.Documents.Node.{node_names, node_shape, KnowsNode}
 use Rattle.cabinet_archived.specs.Documents.Denotes.{Denotes, pair_value, tagged_value}
 use Rattle.cabinet_archived.specs.Documents.Order.{arranged}
 use Rattle.cabinet_archived.specs.Documents.OwnBytes.{LeadsTo, leads_here, leads_inside, leads_place, leads_key}
 use Rattle.cabinet_archived.specs.Documents.Laws.{payload_of}
 use Rattle.cabinet_archived.proofs.Documents.Nodes.{NodeValue}
-use Rattle.cabinet_archived.proofs.Documents.Known.{leaf_tag, LeafValue, Known, known_leaf, known_shared, known_none, known_some, known_list, known_ordered, known_hashed, known_kept, known, known_element, known_pair}
-use Rattle.cabinet_archived.proofs.Documents.ByKey.{distinct, distinct_in_order, node_in_order}
+use Rattle.cabinet_archived.proofs.Documents.Known.{leaf_tag, LeafValue, Known, known_leaf, known_shared, known_none, known_some, known_list, known_ordered, known_hashed, known_kept, known, known_element, known_pair, known_whole}
+use Rattle.cabinet_archived.proofs.Documents.ByKey.{distinct, distinct_in_order, node_in_order, enters_in_order}
 use Rattle.cabinet_archived.proofs.Documents.IndexSteps.{index_node}
 use Rattle.cabinet_archived.proofs.Documents.TableSteps.{table_node}
 use Rattle.cabinet_archived.proofs.Documents.BtreeSpelling.PairsStand.{tree_pair_stands}
@@ -127,7 +127,7 @@ module _ (bytes : List ℕ) where
   abbrev On : List Step → Leaf → Type 0
   On rest l =
       (pos level : ℕ) (around : List OpenShared) (v : Value) (regions : List Region) (before after : List Visit) (t : Tree)
-      → NodeValue bytes v → Denotes v t → IsLegal t → Holds node_names bytes level around (at pos node_shape) v regions before after → HeldAt node_shape KnowsNode bytes pos v → node_at t rest ≡ Some (leaf l)
+      → NodeValue bytes v → Denotes v t → IsLegal t → Holds node_names bytes level around (at pos node_shape) v regions before after → HeldAt node_shape KnowsNode bytes pos v → node_at t rest ≡ Some (leaf l) → enters t rest ≡ false
       → LeafFound level around before pos v rest l
 
   module _ (l : Leaf) {level pos : ℕ} {around : List OpenShared} {v : Value} {regions : List Region} {before after : List Visit} {t : Tree}
@@ -156,22 +156,23 @@ module _ (bytes : List ℕ) where
       ends_here (known_ordered e f ns ds) g = absurd (cc)
       ends_here (known_hashed e f ns ds) g = absurd (cc)
       ends_here (known_kept e f ns ds) g = absurd (cc)
+      ends_here (known_whole e f n d) g = absurd (cc)
 
-      in_option : (rest : List Step) → On rest l → Known bytes v t → node_at t (inside ∷ rest) ≡ Some (leaf l) → LeafFound level around before pos v (inside ∷ rest) l
+      in_option : (rest : List Step) → On rest l → Known bytes v t → node_at t (inside ∷ rest) ≡ Some (leaf l) → enters t (inside ∷ rest) ≡ false → LeafFound level around before pos v (inside ∷ rest) l
       unfolding align_up
-      in_option rest on (known_leaf m e f) g = let k = subst (λ x. node_at x (inside ∷ rest) ≡ Some (leaf l)) f g in absurd (cc)
-      in_option rest on (known_shared e f) g = let k = subst (λ x. node_at x (inside ∷ rest) ≡ Some (leaf l)) f g in absurd (cc)
-      in_option rest on (known_none e f) g = let k = subst (λ x. node_at x (inside ∷ rest) ≡ Some (leaf l)) f g in absurd (cc)
-      in_option rest on (known_some {w = w} {u = u} e f n d) g =
+      in_option rest on (known_leaf m e f) g o = let k = subst (λ x. node_at x (inside ∷ rest) ≡ Some (leaf l)) f g in absurd (cc)
+      in_option rest on (known_shared e f) g o = let k = subst (λ x. node_at x (inside ∷ rest) ≡ Some (leaf l)) f g in absurd (cc)
+      in_option rest on (known_none e f) g o = let k = subst (λ x. node_at x (inside ∷ rest) ≡ Some (leaf l)) f g in absurd (cc)
+      in_option rest on (known_some {w = w} {u = u} e f n d) g o =
           let k : node_at u rest ≡ Some (leaf l) = subst (λ x. node_at x (inside ∷ rest) ≡ Some (leaf l)) f g in
           let p = paid_at bytes pos 4 (tagged_value 1 w) e h 4 (option (box (sized node_shape))) refl refl in
           let s = inside_at bytes (pos + 4) w refl p.holds in
           let eight : pos + 4 + 4 ≡ pos + 8 = omega arith in
           let points = subst (λ n. PointsTo bytes n s.to) eight s.points in
-          let r = on s.to _ _ w s.regions _ _ u n d (subst IsLegal f legal) s.holds (inside_held bytes pos v there w s.to e (tag_is bytes pos 4 (tagged_value 1 w) e h) points) k in
+          let r = on s.to _ _ w s.regions _ _ u n d (subst IsLegal f legal) s.holds (inside_held bytes pos v there w s.to e (tag_is bytes pos 4 (tagged_value 1 w) e h) points) k (subst (λ x. enters x (inside ∷ rest) ≡ false) f o) in
           record {
             to = r.to;
-            way = goes_on {to = r.to} refl (steps_inside refl points) r.way;
+            way = goes_on {to = r.to} refl (steps_inside refl (tag_is bytes pos 4 (tagged_value 1 w) e h) points) r.way;
             node = r.node;
             inner = 0 ∷ (0 ∷ r.inner);
             leads = leads_inside {more = r.inner} e refl refl r.leads;
@@ -181,23 +182,24 @@ module _ (bytes : List ℕ) where
             stands = p.stands r.part r.payload (0 ∷ (r.inner ++ 0 ∷ [])) (s.stands r.part r.payload (r.inner ++ 0 ∷ []) r.stands);
             lies = r.lies;
           }
-      in_option rest on (known_list e f ns ds) g = let k = subst (λ x. node_at x (inside ∷ rest) ≡ Some (leaf l)) f g in absurd (cc)
-      in_option rest on (known_ordered e f ns ds) g = let k = subst (λ x. node_at x (inside ∷ rest) ≡ Some (leaf l)) f g in absurd (cc)
-      in_option rest on (known_hashed e f ns ds) g = let k = subst (λ x. node_at x (inside ∷ rest) ≡ Some (leaf l)) f g in absurd (cc)
-      in_option rest on (known_kept e f ns ds) g = let k = subst (λ x. node_at x (inside ∷ rest) ≡ Some (leaf l)) f g in absurd (cc)
+      in_option rest on (known_list e f ns ds) g o = let k = subst (λ x. node_at x (inside ∷ rest) ≡ Some (leaf l)) f g in absurd (cc)
+      in_option rest on (known_ordered e f ns ds) g o = let k = subst (λ x. node_at x (inside ∷ rest) ≡ Some (leaf l)) f g in absurd (cc)
+      in_option rest on (known_hashed e f ns ds) g o = let k = subst (λ x. node_at x (inside ∷ rest) ≡ Some (leaf l)) f g in absurd (cc)
+      in_option rest on (known_kept e f ns ds) g o = let k = subst (λ x. node_at x (inside ∷ rest) ≡ Some (leaf l)) f g in absurd (cc)
+      in_option rest on (known_whole e f n d) g o = let both : true ≡ false = sym (ap (λ x. enters x (inside ∷ rest)) f) ∙ o in absurd (cc)
 
-      in_list : (i : ℕ) (rest : List Step) → On rest l → Known bytes v t → node_at t (place i ∷ rest) ≡ Some (leaf l) → LeafFound level around before pos v (place i ∷ rest) l
+      in_list : (i : ℕ) (rest : List Step) → On rest l → Known bytes v t → node_at t (place i ∷ rest) ≡ Some (leaf l) → enters t (place i ∷ rest) ≡ false → LeafFound level around before pos v (place i ∷ rest) l
       unfolding align_up
-      in_list i rest on (known_leaf m e f) g = let k = subst (λ x. node_at x (place i ∷ rest) ≡ Some (leaf l)) f g in absurd (cc)
-      in_list i rest on (known_shared e f) g = let k = subst (λ x. node_at x (place i ∷ rest) ≡ Some (leaf l)) f g in absurd (cc)
-      in_list i rest on (known_none e f) g = let k = subst (λ x. node_at x (place i ∷ rest) ≡ Some (leaf l)) f g in absurd (cc)
-      in_list i rest on (known_some e f n d) g = let k = subst (λ x. node_at x (place i ∷ rest) ≡ Some (leaf l)) f g in absurd (cc)
-      in_list i rest on (known_list {vs = vs} {ts = ts} e f ns ds) g =
-          let k = known_element i rest (leaf l) ns ds (subst IsLegal f legal).0 (subst (λ x. node_at x (place i ∷ rest) ≡ Some (leaf l)) f g) in
+      in_list i rest on (known_leaf m e f) g o = let k = subst (λ x. node_at x (place i ∷ rest) ≡ Some (leaf l)) f g in absurd (cc)
+      in_list i rest on (known_shared e f) g o = let k = subst (λ x. node_at x (place i ∷ rest) ≡ Some (leaf l)) f g in absurd (cc)
+      in_list i rest on (known_none e f) g o = let k = subst (λ x. node_at x (place i ∷ rest) ≡ Some (leaf l)) f g in absurd (cc)
+      in_list i rest on (known_some e f n d) g o = let k = subst (λ x. node_at x (place i ∷ rest) ≡ Some (leaf l)) f g in absurd (cc)
+      in_list i rest on (known_list {vs = vs} {ts = ts} e f ns ds) g o =
+          let k = known_element i rest (leaf l) ns ds (subst IsLegal f legal).0 (subst (λ x. node_at x (place i ∷ rest) ≡ Some (leaf l)) f g) (subst (λ x. enters x (place i ∷ rest) ≡ false) f o) in
           let p = paid_at bytes pos 5 (group vs) e h 4 (vector node_shape) refl refl in
           let s = element_at bytes (pos + 4) i k.value vs refl k.there p.holds in
           let held = element_held bytes pos v there vs i s.first k.value e (tag_is bytes pos 5 (group vs) e h) s.points k.there in
-          let r = on _ _ _ k.value s.regions s.since s.until k.tree k.node k.denotes k.legal s.holds held k.found in
+          let r = on _ _ _ k.value s.regions s.since s.until k.tree k.node k.denotes k.legal s.holds held k.found k.outside in
           record {
             to = r.to;
             way = goes_on {to = r.to} refl (steps_place refl s.points refl) r.way;
@@ -210,51 +212,53 @@ module _ (bytes : List ℕ) where
             stands = p.stands r.part r.payload (i ∷ (r.inner ++ 0 ∷ [])) (s.stands r.part r.payload (r.inner ++ 0 ∷ []) r.stands);
             lies = r.lies;
           }
-      in_list i rest on (known_ordered e f ns ds) g = let k = subst (λ x. node_at x (place i ∷ rest) ≡ Some (leaf l)) f g in absurd (cc)
-      in_list i rest on (known_hashed e f ns ds) g = let k = subst (λ x. node_at x (place i ∷ rest) ≡ Some (leaf l)) f g in absurd (cc)
-      in_list i rest on (known_kept e f ns ds) g = let k = subst (λ x. node_at x (place i ∷ rest) ≡ Some (leaf l)) f g in absurd (cc)
+      in_list i rest on (known_ordered e f ns ds) g o = let k = subst (λ x. node_at x (place i ∷ rest) ≡ Some (leaf l)) f g in absurd (cc)
+      in_list i rest on (known_hashed e f ns ds) g o = let k = subst (λ x. node_at x (place i ∷ rest) ≡ Some (leaf l)) f g in absurd (cc)
+      in_list i rest on (known_kept e f ns ds) g o = let k = subst (λ x. node_at x (place i ∷ rest) ≡ Some (leaf l)) f g in absurd (cc)
+      in_list i rest on (known_whole e f n d) g o = let k = subst (λ x. node_at x (place i ∷ rest) ≡ Some (leaf l)) f g in absurd (cc)
 
-      in_map : (k : List ℕ) (rest : List Step) → On rest l → Known bytes v t → node_at t (key k ∷ rest) ≡ Some (leaf l) → LeafFound level around before pos v (key k ∷ rest) l
+      in_map : (k : List ℕ) (rest : List Step) → On rest l → Known bytes v t → node_at t (key k ∷ rest) ≡ Some (leaf l) → enters t (key k ∷ rest) ≡ false → LeafFound level around before pos v (key k ∷ rest) l
       unfolding align_up
-      in_map k rest on (known_leaf m e f) g = let n = subst (λ x. node_at x (key k ∷ rest) ≡ Some (leaf l)) f g in absurd (cc)
-      in_map k rest on (known_shared e f) g = let n = subst (λ x. node_at x (key k ∷ rest) ≡ Some (leaf l)) f g in absurd (cc)
-      in_map k rest on (known_none e f) g = let n = subst (λ x. node_at x (key k ∷ rest) ≡ Some (leaf l)) f g in absurd (cc)
-      in_map k rest on (known_some e f n d) g = let n = subst (λ x. node_at x (key k ∷ rest) ≡ Some (leaf l)) f g in absurd (cc)
-      in_map k rest on (known_list e f ns ds) g = let n = subst (λ x. node_at x (key k ∷ rest) ≡ Some (leaf l)) f g in absurd (cc)
-      in_map k rest on (known_ordered {vs = vs} {ps = ps} e f ns ds) g =
+      in_map k rest on (known_leaf m e f) g o = let n = subst (λ x. node_at x (key k ∷ rest) ≡ Some (leaf l)) f g in absurd (cc)
+      in_map k rest on (known_shared e f) g o = let n = subst (λ x. node_at x (key k ∷ rest) ≡ Some (leaf l)) f g in absurd (cc)
+      in_map k rest on (known_none e f) g o = let n = subst (λ x. node_at x (key k ∷ rest) ≡ Some (leaf l)) f g in absurd (cc)
+      in_map k rest on (known_some e f n d) g o = let n = subst (λ x. node_at x (key k ∷ rest) ≡ Some (leaf l)) f g in absurd (cc)
+      in_map k rest on (known_list e f ns ds) g o = let n = subst (λ x. node_at x (key k ∷ rest) ≡ Some (leaf l)) f g in absurd (cc)
+      in_map k rest on (known_ordered {vs = vs} {ps = ps} e f ns ds) g free =
           let each = distinct ordered [] ps (subst IsLegal f legal).0 in
-          let p = known_pair k rest (leaf l) ns ds each (subst (λ x. node_at x (key k ∷ rest) ≡ Some (leaf l)) f g) in
+          let p = known_pair k rest (leaf l) ns ds each (subst (λ x. node_at x (key k ∷ rest) ≡ Some (leaf l)) f g) (subst (λ x. enters x (key k ∷ rest) ≡ false) f free) in
           let o = paid_at bytes pos 6 (group vs) e h 4 map_shape refl refl in
           let s = tree_pair_stands o.holds p.number (string k) p.value p.there in
           let tag = tag_is bytes pos 6 (group vs) e h in
           let x = pair_entry bytes (pos + 4) vs (map_held bytes pos v there (group vs) e tag) k p.number s.value_pos p.value p.there p.first s.item in
-          let r = on s.value_pos s.deeper around p.value s.regions s.since s.until p.tree p.node p.denotes p.legal s.holds x.held p.found in
+          let r = on s.value_pos s.deeper around p.value s.regions s.since s.until p.tree p.node p.denotes p.legal s.holds x.held p.found p.outside in
           mapped l 6 k p.number rest p.value e (inl refl) p.there s.value_pos (steps_key refl tag x.entry) r
           (λ way stands. o.stands r.part r.payload (p.number ∷ (1 ∷ (r.inner ++ 0 ∷ []))) (s.stands r.part r.payload (r.inner ++ 0 ∷ []) (record { stands = stands; spares = avoids bytes stands node_here s.value_pos refl way })).stands)
-      in_map k rest on (known_hashed {vs = vs} {ps = ps} e f ns ds) g =
+      in_map k rest on (known_hashed {vs = vs} {ps = ps} e f ns ds) g free =
           let all = distinct hashed [] (arranged ps) (subst IsLegal f legal).0 in
           let at_key = sym (node_in_order hashed k rest ps) ∙ subst (λ x. node_at x (key k ∷ rest) ≡ Some (leaf l)) f g in
-          let p = known_pair k rest (leaf l) ns ds (distinct_in_order hashed ps all) at_key in
+          let p = known_pair k rest (leaf l) ns ds (distinct_in_order hashed ps all) at_key (sym (enters_in_order hashed k rest ps) ∙ subst (λ x. enters x (key k ∷ rest) ≡ false) f free) in
           let o = paid_at bytes pos 7 (group vs) e h 4 table_shape refl refl in
           let s = table_node bytes (pos + 4) p.number k p.value refl p.there o.holds in
           let tag = tag_is bytes pos 7 (group vs) e h in
           let x = pair_bucket bytes (pos + 4) vs (table_held bytes pos v there (group vs) e tag) k p.number s.pair_pos s.node_pos p.value p.there p.first s.is_pair s.behind_key in
-          let r = on s.node_pos s.deeper around p.value s.regions s.since s.until p.tree p.node p.denotes p.legal s.holds x.held p.found in
+          let r = on s.node_pos s.deeper around p.value s.regions s.since s.until p.tree p.node p.denotes p.legal s.holds x.held p.found p.outside in
           mapped l 7 k p.number rest p.value e (inr (inl refl)) p.there s.node_pos (steps_hashed refl tag x.bucket) r
           (λ way stands. o.stands r.part r.payload (p.number ∷ (1 ∷ (r.inner ++ 0 ∷ []))) (s.stands r.part r.payload (r.inner ++ 0 ∷ []) stands))
-      in_map k rest on (known_kept {vs = vs} {ps = ps} e f ns ds) g =
+      in_map k rest on (known_kept {vs = vs} {ps = ps} e f ns ds) g free =
           let each = distinct kept [] ps (subst IsLegal f legal).0 in
-          let p = known_pair k rest (leaf l) ns ds each (subst (λ x. node_at x (key k ∷ rest) ≡ Some (leaf l)) f g) in
+          let p = known_pair k rest (leaf l) ns ds each (subst (λ x. node_at x (key k ∷ rest) ≡ Some (leaf l)) f g) (subst (λ x. enters x (key k ∷ rest) ≡ false) f free) in
           let o = paid_at bytes pos 8 (group vs) e h 4 index_shape refl refl in
           let s = index_node bytes (pos + 4) p.number k p.value refl p.there o.holds in
           let tag = tag_is bytes pos 8 (group vs) e h in
           let x = pair_numbered bytes (pos + 4) vs (index_held bytes pos v there (group vs) e tag) k p.number s.pair_pos s.node_pos p.value p.there p.first s.is_pair s.behind_key in
-          let r = on s.node_pos s.deeper around p.value s.regions s.since s.until p.tree p.node p.denotes p.legal s.holds x.held p.found in
+          let r = on s.node_pos s.deeper around p.value s.regions s.since s.until p.tree p.node p.denotes p.legal s.holds x.held p.found p.outside in
           mapped l 8 k p.number rest p.value e (inr (inr refl)) p.there s.node_pos (steps_kept refl tag x.numbered) r
           (λ way stands. o.stands r.part r.payload (p.number ∷ (1 ∷ (r.inner ++ 0 ∷ []))) (s.stands r.part r.payload (r.inner ++ 0 ∷ []) stands))
+      in_map k rest on (known_whole e f n d) g o = let m = subst (λ x. node_at x (key k ∷ rest) ≡ Some (leaf l)) f g in absurd (cc)
 
   pub leaf_found : (path : List Step) (l : Leaf) → On path l
-  leaf_found [] l pos level around v regions before after t n d legal h there g = ends_here l legal h there (known n d) g
-  leaf_found (inside ∷ rest) l pos level around v regions before after t n d legal h there g = in_option l legal h there rest (leaf_found rest l) (known n d) g
-  leaf_found (place i ∷ rest) l pos level around v regions before after t n d legal h there g = in_list l legal h there i rest (leaf_found rest l) (known n d) g
-  leaf_found (key k ∷ rest) l pos level around v regions before after t n d legal h there g = in_map l legal h there k rest (leaf_found rest l) (known n d) g
+  leaf_found [] l pos level around v regions before after t n d legal h there g o = ends_here l legal h there (known n d) g
+  leaf_found (inside ∷ rest) l pos level around v regions before after t n d legal h there g o = in_option l legal h there rest (leaf_found rest l) (known n d) g o
+  leaf_found (place i ∷ rest) l pos level around v regions before after t n d legal h there g o = in_list l legal h there i rest (leaf_found rest l) (known n d) g o
+  leaf_found (key k ∷ rest) l pos level around v regions before after t n d legal h there g o = in_map l legal h there k rest (leaf_found rest l) (known n d) g o

@@ -5,10 +5,12 @@ mod Auditing
 mod Buckets
 mod Costs
 pub mod Documents
+mod Entering
 mod Entries
 mod Exact
 mod HashedAuditing
 mod HashedLeading
+mod Heights
 mod IndexAudit
 mod IndexLookups
 mod IndexPairs
@@ -22,13 +24,16 @@ mod KeysYielded
 mod Leading
 mod LeafPlaces
 mod Loaded
+mod LoadedEntries
 mod LoadedMaps
 mod LoadedPairs
 mod LoadedRoot
 mod LoadedTexts
+mod LoadedTrees
+mod LoadedWholes
 mod MapKeys
+mod MapsAuditing
 mod NoSteps
-mod NoWholes
 mod NodeKinds
 mod Numbered
 mod Outcomes

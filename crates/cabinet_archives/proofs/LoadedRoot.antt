@@ -1,15 +1,14 @@
 -- The tree of the root of accepted bytes.
-use Rattle.std.proofs.Common.{◌≡◌, ℕ, ◌<◌, ◌≤◌, ◌^◌, Bor, List, [], ◌∷◌, length, true, false, refl, ap, subst, sym, arith}
+use Rattle.std.proofs.Common.{◌≡◌, ℕ, ◌<◌, ◌≤◌, ◌^◌, Bor, List, [], ◌∷◌, length, true, false, refl, ap, subst, sym, ◌∙◌, arith}
 use Rattle.std.proofs.Math.Bool.{Bool-set}
 use Rattle.std.proofs.Math.Logic.{∥∥₁_elim, ∥∥₁_map}
 use Rattle.archive_shape.specs.ShapeLayout.Value.{Value}
 use Rattle.archive_shape.proofs.ShapeLayout.Found.{root_is_found}
 use Rattle.archive_forms_values.specs.ShapeCanonical.Canonical.{AreBytes}
-use Rattle.cabinet_text_nodes.specs.TextGrammar.Tree.{Tree, IsLegal, depth}
+use Rattle.cabinet_text_nodes.specs.TextGrammar.Tree.{Tree}
 use Rattle.cabinet_text_nodes.specs.TextGrammar.Wholes.{wholes_of, IsDocument}
 use Rattle.cabinet_text_nodes.specs.View.{node_tree}
 use Rattle.cabinet_text_nodes.specs.declared.node.Node.{Node}
-use Rattle.cabinet_text_nodes.proofs.Entries.{no_wholes}
 use Rattle.cabinet_archived.specs.Documents.Accepted.{Accepted}
 use Rattle.cabinet_archived.specs.Documents.Audit.{Unsound, faults, first_of}
 use Rattle.cabinet_archived.specs.Documents.Laws.{AuditDecided, IsAccepted}
@@ -30,36 +29,31 @@ module _ (bytes : List ℕ) where
         absurd (cc)
 
   -- bytes that are known to be accepted, but not as which document, are found to be
-  found_accepted : AreBytes bytes → ∥ ((t : Tree) × Accepted bytes t) ∥₁ → IsAccepted bytes
-  found_accepted small known =
+  found_accepted : AreBytes bytes → length bytes < 2 ^ 64 → ∥ ((t : Tree) × Accepted bytes t) ∥₁ → IsAccepted bytes
+  found_accepted small counted known =
       let r = root_is_found node_names bytes (root_of bytes) node_shape (∥∥₁_map known (λ x. record { value = x.1.value; regions = x.1.regions; visits = x.1.visits; root = x.1.root })) in
-      let decided = audit_decides_law bytes r.value r.regions r.visits small r.root in
+      let decided = audit_decides_law bytes r.value r.regions r.visits small counted r.root in
       decided.accepted (quiet known decided (faults bytes decided.walk) refl)
 
-  pub root_tree : AreBytes bytes → ∥ ((t : Tree) × Accepted bytes t) ∥₁ → HasTree (λ v. v) node_shape KnowsNode bytes (root_of bytes) 0
-  root_tree small known =
-      let a = found_accepted small known in
+  pub root_tree : AreBytes bytes → length bytes < 2 ^ 64 → ∥ ((t : Tree) × Accepted bytes t) ∥₁ → HasTree (λ v. v) node_shape KnowsNode bytes (root_of bytes) 0
+  root_tree small counted known =
+      let a = found_accepted small counted known in
       let document = a.accepted.document in
       record { value = a.accepted.value; held = root_there bytes a.accepted; tree = a.tree; denotes = a.accepted.denotes; legal = document.0; low = omega (arith, document.1) }
 
-  -- what is loaded of the root is a document without wholes, and the one that the bytes are accepted as
-  module _ (n : Node) (is : OfDocument bytes (root_of bytes) (λ t. node_tree [] n ≡ t)) where
-    pub loaded_document : HasTree (λ v. v) node_shape KnowsNode bytes (root_of bytes) 0 → IsDocument (node_tree [] n) × (wholes_of (node_tree [] n) ≡ [])
-    loaded_document has =
-        let same = is has.value has.tree has.held has.denotes in
-        let legal = subst IsLegal (sym same) has.legal in
-        let none = no_wholes n legal in
-        let low = has.low in
-        ((legal, subst (λ t. depth t ≤ 64) (sym same) (omega (arith, low)), subst (λ table. length table < 2 ^ 64) (sym none) (omega arith)), none)
+  -- what is loaded of the root is the document that the bytes are accepted as, with the wholes that it has
+  module _ (table : List Tree) (n : Node) (is : OfDocument bytes (root_of bytes) (λ t. (node_tree table n ≡ t) × (table ≡ wholes_of t))) where
+    pub loaded_document : AreBytes bytes → length bytes < 2 ^ 64 → ∥ ((t : Tree) × Accepted bytes t) ∥₁ → IsDocument (node_tree table n) × (wholes_of (node_tree table n) ≡ table)
+    loaded_document small counted known =
+        let a = found_accepted small counted known in
+        let one = is a.accepted.value a.tree (root_there bytes a.accepted) a.accepted.denotes in
+        (subst IsDocument (sym one.0) a.accepted.document, ap wholes_of one.0 ∙ sym one.1)
 
-    pub loaded_accepted : (t : Tree) → Accepted bytes t → node_tree [] n ≡ t
-    loaded_accepted t a = is a.value t (root_there bytes a) a.denotes
+    pub loaded_accepted : (t : Tree) → Accepted bytes t → node_tree table n ≡ t
+    loaded_accepted t a = (is a.value t (root_there bytes a) a.denotes).0
 
 -- ---- the same bytes, the same position
 
 pub tree_as : {x y : Bor (List ℕ)} {pos to outer : ℕ} → x ≡ y → pos ≡ to → HasTree (λ v. v) node_shape KnowsNode y.now to outer → HasTree (λ v. v) node_shape KnowsNode x.now pos outer
 tree_as {y = y} {pos = pos} {outer = outer} e f h =
     subst (λ (b : Bor (List ℕ)). HasTree (λ v. v) node_shape KnowsNode b.now pos outer) (sym e) (subst (λ n. HasTree (λ v. v) node_shape KnowsNode y.now n outer) (sym f) h)
-
-pub loaded_as : (n : Tree) {x y : Bor (List ℕ)} {pos to : ℕ} → x ≡ y → pos ≡ to → OfDocument x.now pos (λ t. n ≡ t) → OfDocument y.now to (λ t. n ≡ t)
-loaded_as n {y = y} {pos = pos} e f of = subst (λ p. OfDocument y.now p (λ t. n ≡ t)) f (subst (λ (b : Bor (List ℕ)). OfDocument b.now pos (λ t. n ≡ t)) e of)

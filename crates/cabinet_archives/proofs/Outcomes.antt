@@ -5,7 +5,7 @@ use Rattle.archive_shape.specs.ShapeLayout.Value.Value.{string}
 use Rattle.cabinet_text_nodes.specs.TextGrammar.Tree.{Leaf, truth, number, text, Tree, leaf}
 use Rattle.cabinet_text_nodes.specs.TextGrammar.Answering.{done, refused, fits, outcome_there}
 use Rattle.cabinet_archived.specs.Documents.Denotes.{Denotes, tagged_value}
-use Rattle.cabinet_archived.specs.Documents.Denotes.Denotes.{denotes_truth, denotes_number, denotes_text, denotes_shared, denotes_nothing, denotes_some, denotes_list, denotes_ordered, denotes_hashed, denotes_kept}
+use Rattle.cabinet_archived.specs.Documents.Denotes.Denotes.{denotes_truth, denotes_number, denotes_text, denotes_shared, denotes_nothing, denotes_some, denotes_list, denotes_ordered, denotes_hashed, denotes_kept, denotes_whole}
 use Rattle.cabinet_archived.specs.Documents.Laws.{payload_of}
 use Rattle.cabinet_archived.proofs.Documents.Known.{leaf_tag}
 
@@ -25,6 +25,7 @@ denoted {tag = tag} e (denotes_list f g d) = let is : tag ≡ 5 = cc in denoted_
 denoted {tag = tag} e (denotes_ordered f g d) = let is : tag ≡ 6 = cc in denoted_other (omega (arith, is)) (λ new. rw g refl)
 denoted {tag = tag} e (denotes_hashed f g d) = let is : tag ≡ 7 = cc in denoted_other (omega (arith, is)) (λ new. rw g refl)
 denoted {tag = tag} e (denotes_kept f g d) = let is : tag ≡ 8 = cc in denoted_other (omega (arith, is)) (λ new. rw g refl)
+denoted {tag = tag} e (denotes_whole f g d) = let is : tag ≡ 9 = cc in denoted_other (omega (arith, is)) (λ new. rw g refl)
 
 -- a leaf of another kind does not fit
 other_kind : (old new : Leaf) → (leaf_tag old ≡ leaf_tag new → ⊥) → fits old new ≡ false

@@ -1,5 +1,5 @@
 -- The own bytes of the leaf at a path begin in the node that the path leads to.
-use Rattle.std.proofs.Common.{◌≡◌, ℕ, ◌+◌, ◌*◌, true, w64, List, [], ◌∷◌, ◌++◌, length, Option, Some, refl, sym, ap, subst, ◌∙◌, arith}
+use Rattle.std.proofs.Common.{◌≡◌, ℕ, ◌+◌, ◌*◌, true, false, w64, List, [], ◌∷◌, ◌++◌, length, Option, Some, refl, sym, ap, subst, ◌∙◌, arith}
 use Rattle.archive_shape.specs.ShapeLayout.Shape.Shape.{truth, number, text}
 use Rattle.archive_shape.specs.ShapeLayout.Shape.Pointee.{str}
 use Rattle.archive_shape.specs.ShapeLayout.Content.{Part}
@@ -10,7 +10,7 @@ use Rattle.archive_forms_values.proofs.FormsLaws.Once.{one_place}
 use Rattle.archive_forms_values.specs.Parts.{PointsTo}
 use Rattle.cabinet_text_nodes.specs.TextGrammar.Tree as document
 use Rattle.cabinet_text_nodes.specs.TextGrammar.Tree.{Leaf, Tree, leaf}
-use Rattle.cabinet_text_nodes.specs.TextGrammar.Path.{Step, node_at}
+use Rattle.cabinet_text_nodes.specs.TextGrammar.Path.{Step, node_at, enters}
 use Rattle.cabinet_text_nodes.specs.TextGrammar.Answering.{fits}
 use Rattle.cabinet_archived.specs.Documents.Node.{node_shape, KnowsNode, own_bytes}
 use Rattle.cabinet_archived.specs.Documents.Accepted.{Accepted}
@@ -18,7 +18,7 @@ use Rattle.cabinet_archived.specs.Documents.OwnBytes.{OwnBytes, IsOwn, own_truth
 use Rattle.cabinet_archived.proofs.Documents.Places.{node_behind}
 use Rattle.cabinet_archived.proofs.Documents.HeldNodes.{none_seen, held}
 use Rattle.cabinet_archived.proofs.Documents.Steps.{behind_below}
-use Rattle.cabinet_archives.specs.Way.{StepsTo, steps_inside, steps_place, steps_key, steps_hashed, steps_kept, GoesTo, goes_nowhere, goes_on}
+use Rattle.cabinet_archives.specs.Way.{StepsTo, steps_inside, steps_place, steps_key, steps_hashed, steps_kept, GoesTo, goes_nowhere, goes_on, steps_whole}
 use Rattle.cabinet_archives.specs.Hashed.{HasBucket}
 use Rattle.cabinet_archives.specs.Kept.{HasNumbered}
 use Rattle.cabinet_archives.specs.Ordered.{HasEntry}
@@ -35,39 +35,50 @@ module _ (bytes : List ℕ) where
   one_target from {to = to} {other = other} p q = let some : ◌≡◌ {A = Option ℕ} (Some to) (Some other) = sym p ∙ q in cc
 
   one_step : {from to other : ℕ} {s : Step} → StepsTo bytes from s to → StepsTo bytes from s other → to ≡ other
-  one_step {from = from} (steps_inside e p) (steps_inside f q) = one_target (from + 8) p q
-  one_step (steps_inside e p) (steps_place f q g) = absurd (cc)
-  one_step (steps_inside e p) (steps_key f t q) = absurd (cc)
-  one_step (steps_inside e p) (steps_hashed f t q) = absurd (cc)
-  one_step (steps_inside e p) (steps_kept f t q) = absurd (cc)
-  one_step (steps_place e p g) (steps_inside f q) = absurd (cc)
-  one_step (steps_place e p g) (steps_key f t q) = absurd (cc)
-  one_step (steps_place e p g) (steps_hashed f t q) = absurd (cc)
-  one_step (steps_place e p g) (steps_kept f t q) = absurd (cc)
-  one_step (steps_key e t p) (steps_inside f q) = absurd (cc)
-  one_step (steps_key e t p) (steps_place f q g) = absurd (cc)
+  one_step {from = from} (steps_inside e t p) (steps_inside f u q) = one_target (from + 8) p q
+  one_step (steps_inside e t p) (steps_whole f u q) = let both : ◌≡◌ {A = ℕ} 4 9 = sym t ∙ u in absurd (omega (arith, both))
+  one_step (steps_inside e t p) (steps_place f q h) = absurd (cc)
+  one_step (steps_inside e t p) (steps_key f u q) = absurd (cc)
+  one_step (steps_inside e t p) (steps_hashed f u q) = absurd (cc)
+  one_step (steps_inside e t p) (steps_kept f u q) = absurd (cc)
+  one_step (steps_whole e t p) (steps_inside f u q) = let both : ◌≡◌ {A = ℕ} 9 4 = sym t ∙ u in absurd (omega (arith, both))
+  one_step {from = from} (steps_whole e t p) (steps_whole f u q) = one_target (from + 4) p q
+  one_step (steps_whole e t p) (steps_place f q h) = absurd (cc)
+  one_step (steps_whole e t p) (steps_key f u q) = absurd (cc)
+  one_step (steps_whole e t p) (steps_hashed f u q) = absurd (cc)
+  one_step (steps_whole e t p) (steps_kept f u q) = absurd (cc)
+  one_step (steps_place e p g) (steps_inside f u q) = absurd (cc)
+  one_step (steps_place e p g) (steps_whole f u q) = absurd (cc)
+  one_step {from = from} (steps_place {i = i} e p g) (steps_place {i = j} {first = first} f q h) =
+      let same_place : i ≡ j = cc in
+      g ∙ ap (λ n. n + i * 24) (one_target (from + 4) p q) ∙ ap (λ n. first + n * 24) same_place ∙ sym h
+  one_step (steps_place e p g) (steps_key f u q) = absurd (cc)
+  one_step (steps_place e p g) (steps_hashed f u q) = absurd (cc)
+  one_step (steps_place e p g) (steps_kept f u q) = absurd (cc)
+  one_step (steps_key e t p) (steps_inside f u q) = absurd (cc)
+  one_step (steps_key e t p) (steps_whole f u q) = absurd (cc)
+  one_step (steps_key e t p) (steps_place f q h) = absurd (cc)
   one_step {from = from} {other = other} (steps_key {k = k} e t p) (steps_key {k = l} f u q) =
       let same_key : l ≡ k = cc in
       one_entry bytes (from + 4) k p (subst (λ x. HasEntry bytes (from + 4) x other) same_key q)
   one_step (steps_key e t p) (steps_hashed f u q) = let both : ◌≡◌ {A = ℕ} 6 7 = sym t ∙ u in absurd (omega (arith, both))
   one_step (steps_key e t p) (steps_kept f u q) = let both : ◌≡◌ {A = ℕ} 6 8 = sym t ∙ u in absurd (omega (arith, both))
-  one_step (steps_hashed e t p) (steps_inside f q) = absurd (cc)
-  one_step (steps_hashed e t p) (steps_place f q g) = absurd (cc)
+  one_step (steps_hashed e t p) (steps_inside f u q) = absurd (cc)
+  one_step (steps_hashed e t p) (steps_whole f u q) = absurd (cc)
+  one_step (steps_hashed e t p) (steps_place f q h) = absurd (cc)
   one_step (steps_hashed e t p) (steps_key f u q) = let both : ◌≡◌ {A = ℕ} 7 6 = sym t ∙ u in absurd (omega (arith, both))
   one_step {from = from} {other = other} (steps_hashed {k = k} e t p) (steps_hashed {k = l} f u q) =
       let same_key : l ≡ k = cc in
       one_bucket bytes (from + 4) k p (subst (λ x. HasBucket bytes (from + 4) x other) same_key q)
   one_step (steps_hashed e t p) (steps_kept f u q) = let both : ◌≡◌ {A = ℕ} 7 8 = sym t ∙ u in absurd (omega (arith, both))
-  one_step (steps_kept e t p) (steps_inside f q) = absurd (cc)
-  one_step (steps_kept e t p) (steps_place f q g) = absurd (cc)
+  one_step (steps_kept e t p) (steps_inside f u q) = absurd (cc)
+  one_step (steps_kept e t p) (steps_whole f u q) = absurd (cc)
+  one_step (steps_kept e t p) (steps_place f q h) = absurd (cc)
   one_step (steps_kept e t p) (steps_key f u q) = let both : ◌≡◌ {A = ℕ} 8 6 = sym t ∙ u in absurd (omega (arith, both))
   one_step (steps_kept e t p) (steps_hashed f u q) = let both : ◌≡◌ {A = ℕ} 8 7 = sym t ∙ u in absurd (omega (arith, both))
   one_step {from = from} {other = other} (steps_kept {k = k} e t p) (steps_kept {k = l} f u q) =
       let same_key : l ≡ k = cc in
       one_numbered bytes (from + 4) k p (subst (λ x. HasNumbered bytes (from + 4) x other) same_key q)
-  one_step {from = from} (steps_place {i = i} e p g) (steps_place {i = j} {first = first} f q h) =
-      let same_place : i ≡ j = cc in
-      g ∙ ap (λ n. n + i * 24) (one_target (from + 4) p q) ∙ ap (λ n. first + n * 24) same_place ∙ sym h
 
   one_way : {from to other : ℕ} {path : List Step} → GoesTo bytes from path to → GoesTo bytes from path other → to ≡ other
   one_way (goes_nowhere e f) (goes_nowhere g h) = f ∙ sym h
@@ -101,12 +112,12 @@ module _ (bytes : List ℕ) where
       own_behind (p ∙ ap (λ n. behind n str len) (sym one.0) ∙ ap (behind start str) (sym one.1))
 
   pub own_there : (t : Tree) (path : List Step) (old new : Leaf) (start to : ℕ) (a : Accepted bytes t)
-      → HeldAt node_shape KnowsNode bytes (root_position (length bytes) node_shape) a.value → node_at t path ≡ Some (leaf old) → fits old new ≡ true → GoesTo bytes (root_position (length bytes) node_shape) path to → BeginsAt bytes to new start
+      → HeldAt node_shape KnowsNode bytes (root_position (length bytes) node_shape) a.value → node_at t path ≡ Some (leaf old) → enters t path ≡ false → fits old new ≡ true → GoesTo bytes (root_position (length bytes) node_shape) path to → BeginsAt bytes to new start
       → OwnBytes bytes a.value path start (length (own_bytes new))
-  own_there t path old new start to a root_there there f way begins =
+  own_there t path old new start to a root_there there outside f way begins =
       let pos = root_position (length bytes) node_shape in
       let b = behind_below bytes pos a.root.holds in
-      let r = leaf_found bytes path old pos 1 [] a.value b.regions [] a.visits t (held bytes a.root.holds node_behind pos refl (none_seen bytes)).value a.denotes a.document.0 b.holds root_there there in
+      let r = leaf_found bytes path old pos 1 [] a.value b.regions [] a.visits t (held bytes a.root.holds node_behind pos refl (none_seen bytes)).value a.denotes a.document.0 b.holds root_there there outside in
       let same_place : to ≡ r.to = one_way way r.way in
       record {
         node = r.node;

@@ -25,9 +25,9 @@ use Rattle.archive_hash_walking.specs.Tables.{Buckets, full_places, item_positio
 use Rattle.archive_hash_walking.proofs.Read.{table_is_read}
 use Rattle.cabinet_text_nodes.specs.TextGrammar.Keys.{MapKind, ordered, hashed, kept}
 use Rattle.cabinet_text_nodes.specs.TextGrammar.Tree.{Leaf, Tree, leaf, shared as shared_text, Trees, Pairs, count, pair_count}
-use Rattle.cabinet_text_nodes.specs.TextGrammar.Item.{leaf_item, shared_item, none_item, some_item, list_item, map_item}
+use Rattle.cabinet_text_nodes.specs.TextGrammar.Item.{leaf_item, shared_item, none_item, some_item, list_item, map_item, whole_head}
 use Rattle.cabinet_text_nodes.specs.TextGrammar.Answering.{head_of}
-use Rattle.cabinet_archived.specs.Documents.Node.{node_shape, pair_shape, KnowsNode}
+use Rattle.cabinet_archived.specs.Documents.Node.{node_shape, pair_shape, KnowsNode, whole_shape}
 use Rattle.cabinet_archived.specs.Documents.Denotes.{Denotes, DenoteAll, DenotePairs, tagged_value}
 use Rattle.cabinet_archived.specs.Documents.Denotes.DenoteAll.{denote_none, denote_more}
 use Rattle.cabinet_archived.specs.Documents.Denotes.DenotePairs.{denote_no_pairs, denote_pair}
@@ -46,6 +46,7 @@ use Rattle.cabinet_archives.proofs.IndexPairs.{entries_of, map_of_value, positio
 use Rattle.cabinet_archives.proofs.Pairs.{pair_entry, entries_of_pairs}
 use Rattle.cabinet_archives.proofs.Ways.{Boxed}
 use Rattle.cabinet_archives.proofs.Stepping.{nothing_is, shared_is, leaf_is, kind_of, map_by}
+use Rattle.cabinet_archived.specs.Documents.Denotes.Denotes.{denotes_truth, denotes_number, denotes_text, denotes_shared, denotes_nothing, denotes_some, denotes_list, denotes_ordered, denotes_hashed, denotes_kept, denotes_whole}
 
 -- ---- texts
 
@@ -79,6 +80,20 @@ count_in_order : (kind : MapKind) (ps : Pairs) → pair_count (in_order kind ps)
 count_in_order ordered ps = refl
 count_in_order hashed ps = arranged_count ps
 count_in_order kept ps = refl
+
+-- the head of a whole, by its tag
+whole_head_is : {v w : Value} {t : Tree} → v ≡ tagged_value 9 w → Denotes v t → whole_head ≡ head_of t
+whole_head_is e (denotes_truth f g) = absurd (cc)
+whole_head_is e (denotes_number f g) = absurd (cc)
+whole_head_is e (denotes_text f g) = absurd (cc)
+whole_head_is e (denotes_shared f g) = absurd (cc)
+whole_head_is e (denotes_nothing f g) = absurd (cc)
+whole_head_is e (denotes_some f g d) = absurd (cc)
+whole_head_is e (denotes_list f g d) = absurd (cc)
+whole_head_is e (denotes_ordered f g d) = absurd (cc)
+whole_head_is e (denotes_hashed f g d) = absurd (cc)
+whole_head_is e (denotes_kept f g d) = absurd (cc)
+whole_head_is e (denotes_whole f g d) = sym (ap head_of g)
 
 module _ (bytes : List ℕ) (pos : ℕ) where
   -- ---- leaves and shared texts, and their heads
@@ -126,21 +141,21 @@ module _ (bytes : List ℕ) (pos : ℕ) where
       ap list_item (sym all.count ∙ counted l.denotes) ∙ sym (ap head_of l.is)
 
   -- as many pairs as a map's value has
-  map_head : (to len : ℕ) {tag : ℕ} {shape : Shape} {knows : Names → Type 0} → IsTagged bytes pos tag shape knows to → 5 < tag → ((v : Value) → HeldAt shape knows bytes to v → len ≡ count_values (members v)) → OfDocument bytes pos (λ t. map_item (kind_of tag) len ≡ head_of t)
-  map_head to len {tag = tag} tagged high says = λ v t h d.
+  map_head : (to len : ℕ) {tag : ℕ} {shape : Shape} {knows : Names → Type 0} → IsTagged bytes pos tag shape knows to → 5 < tag → tag < 9 → ((v : Value) → HeldAt shape knows bytes to v → len ≡ count_values (members v)) → OfDocument bytes pos (λ t. map_item (kind_of tag) len ≡ head_of t)
+  map_head to len {tag = tag} tagged high low says = λ v t h d.
       let p = tagged.payload v h in
-      let o = map_by p.is high d in
+      let o = map_by p.is high low d in
       ap (map_item (kind_of tag)) (says p.payload p.held ∙ (pairs_counted o.denotes ∙ sym (count_in_order (kind_of tag) o.pairs))) ∙ sym (ap head_of o.is)
 
   -- as the tree has items
   pub ordered_head : (to len : ℕ) → IsTagged bytes pos 6 map_shape knows_pairs to → ((t : SearchTree Place) → IsMapAt bytes 5 text node_shape to t → len ≡ length (items t)) → OfDocument bytes pos (λ t. map_item ordered len ≡ head_of t)
-  ordered_head to len tagged says = map_head to len tagged (omega arith) (λ v h.
+  ordered_head to len tagged says = map_head to len tagged (omega arith) (omega arith) (λ v h.
       let m : IsMapOf text node_shape (λ _. ⊤) KnowsNode bytes 5 to v = tree_of_value (record { value = v; held = h }) in
       says m.search_tree m.map ∙ entries_counted bytes (items m.search_tree) (members v) m.entries)
 
   -- as the table has full places
   pub hashed_head : (to len : ℕ) → IsTagged bytes pos 7 table_shape knows_pairs to → ((b : Buckets) → IsTableAt bytes pair_shape to b → len ≡ length (full_places b)) → OfDocument bytes pos (λ t. map_item hashed len ≡ head_of t)
-  hashed_head to len tagged says = map_head to len tagged (omega arith) (λ v h.
+  hashed_head to len tagged says = map_head to len tagged (omega arith) (omega arith) (λ v h.
       let m = table_is_read pair_shape knows_pairs bytes to v h in
       let ps = item_positions pair_shape m.buckets in
       says m.buckets m.table
@@ -149,9 +164,12 @@ module _ (bytes : List ℕ) (pos : ℕ) where
 
   -- as the index map has entries
   pub kept_head : (to len : ℕ) → IsTagged bytes pos 8 index_shape knows_pairs to → OfKept bytes to (λ m. len ≡ count_of m) → OfDocument bytes pos (λ t. map_item kept len ≡ head_of t)
-  kept_head to len tagged says = map_head to len tagged (omega arith) (λ v h.
+  kept_head to len tagged says = map_head to len tagged (omega arith) (omega arith) (λ v h.
       let r = map_of_value bytes to v h in
       let ps = entry_positions text node_shape r.map in
       says r.map r.stands
       ∙ (sym (positions_counted bytes r.map)
       ∙ (sym (length-map ps (pair_entry bytes)) ∙ entries_counted bytes (map (pair_entry bytes) ps) (members v) (entries_of bytes to v h))))
+
+  pub whole_is_head : (to : ℕ) → IsTagged bytes pos 9 whole_shape KnowsNode to → OfDocument bytes pos (λ t. whole_head ≡ head_of t)
+  whole_is_head to tagged = λ v t h d. whole_head_is (tagged.payload v h).is d

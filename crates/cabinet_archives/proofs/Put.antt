@@ -94,7 +94,7 @@ low_tag (truth b) = omega arith
 low_tag (number n) = omega arith
 low_tag (text t) = omega arith
 
--- a node that is a shared text, an option, a list or a map takes no leaf
+-- a node that is a shared text or a container takes no leaf
 pub container_refuses : (bytes : Bor (List ℕ)) (pos : ℕ) (k : ArchivedKind) (new : Leaf) → IsKindAt bytes pos k
     → ((r : _) → k ≡ kind.Bool r → ⊥) → ((r : _) → k ≡ kind.Int r → ⊥) → ((r : _) → k ≡ kind.Text r → ⊥)
     → OfDocument bytes.now pos (λ t. refused ≡ outcome_there new t)
@@ -107,6 +107,7 @@ container_refuses bytes pos (kind.List r) new is no_truth no_number no_text = pu
 container_refuses bytes pos (kind.Ordered r) new is no_truth no_number no_text = put_refused bytes.now pos new 6 is.2 (λ e. let low = low_tag new in omega (arith, e, low))
 container_refuses bytes pos (kind.Hashed r) new is no_truth no_number no_text = put_refused bytes.now pos new 7 is.2 (λ e. let low = low_tag new in omega (arith, e, low))
 container_refuses bytes pos (kind.Kept r) new is no_truth no_number no_text = put_refused bytes.now pos new 8 is.2 (λ e. let low = low_tag new in omega (arith, e, low))
+container_refuses bytes pos (kind.Whole r) new is no_truth no_number no_text = put_refused bytes.now pos new 9 is.2 (λ e. let low = low_tag new in omega (arith, e, low))
 
 -- ---- the same bytes at the same place
 

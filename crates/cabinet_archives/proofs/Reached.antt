@@ -1,5 +1,5 @@
 -- The answer, and the bytes after it, where a leaf is put in the node that a path reaches, or none is reached.
-use Rattle.std.proofs.Common.{◌≡◌, ℕ, Bor, if◌then◌else◌, List, length, refl, sym, ap, subst, ◌∙◌}
+use Rattle.std.proofs.Common.{◌≡◌, ℕ, Bor, true, false, if◌then◌else◌, List, length, refl, sym, ap, subst, ◌∙◌}
 use Rattle.std.proofs.Math.Logic.{∥∥₁_map}
 use Rattle.archive_shape.specs.ShapeLayout.Holds.{root_position}
 use Rattle.archive_shape.specs.ShapeLayout.Content.Part.{at}
@@ -8,7 +8,7 @@ use Rattle.archive_shape.proofs.ShapeLayout.Found.{root_is_found}
 use Rattle.archive_forms_values.specs.Parts.{HasValue}
 use Rattle.archive_core_validation.proofs.Rooted.{root_held}
 use Rattle.cabinet_text_nodes.specs.TextGrammar.Tree.{Tree, Leaf, IsLeaf}
-use Rattle.cabinet_text_nodes.specs.TextGrammar.Path.{Step}
+use Rattle.cabinet_text_nodes.specs.TextGrammar.Path.{Step, enters}
 use Rattle.cabinet_text_nodes.specs.TextGrammar.Line.{set}
 use Rattle.cabinet_text_nodes.specs.TextGrammar.Answering.{Answer, head, keys_are, wrong, missing, done, refused, bad, answer, change, if_there, outcome_there, outcome_at}
 use Rattle.cabinet_archived.specs.Documents.Node.{node_shape, node_names, KnowsNode}
@@ -20,7 +20,6 @@ use Rattle.cabinet_archives.specs.Sound.{HasSoundWalk, IsSoundPart}
 use Rattle.cabinet_archives.specs.Found.{OfDocument, Reaches, ReachesNone}
 use Rattle.cabinet_archives.specs.Setting.{EditLeaves}
 use Rattle.cabinet_archives.specs.Putting.{PutLeaves}
-use Rattle.cabinet_archives.proofs.NoWholes.{denoted_enters_none}
 use Rattle.cabinet_archives.proofs.Kept.{done_at, set_keeps_accepted, set_keeps_image}
 use Rattle.cabinet_archives.proofs.OwnPlaces.{own_there}
 
@@ -60,11 +59,17 @@ module _ (bytes : List ℕ) where
     pub none_set : ReachesNone bytes (root_of bytes) path → Sets missing bytes
     none_set none t a = record { answered = sym (ap (λ o. if_there o (outcome_at t path new)) (none a.value t (root_there a) a.denotes)); left = refl }
 
-    module _ (to : ℕ) (reached : Reaches bytes (root_of bytes) path to) (o : Answer) (after : List ℕ) (told : OfDocument bytes to (λ u. o ≡ outcome_there new u)) where
+    -- what lies in a whole is refused
+    pub inside_set : (to : ℕ) → Reaches bytes (root_of bytes) path to → OfDocument bytes (root_of bytes) (λ t. enters t path ≡ true) → Sets refused bytes
+    inside_set to reached inside t a =
+        let s = reached.stands a.value t (root_there a) a.denotes in
+        record { answered = sym (ap (λ x. if_there x (outcome_at t path new)) s.there ∙ ap (λ b. if b then refused else outcome_there new s.tree) (inside a.value t (root_there a) a.denotes)); left = refl }
+
+    module _ (to : ℕ) (reached : Reaches bytes (root_of bytes) path to) (free : OfDocument bytes (root_of bytes) (λ t. enters t path ≡ false)) (o : Answer) (after : List ℕ) (told : OfDocument bytes to (λ u. o ≡ outcome_there new u)) where
       answered_there : (t : Tree) → Accepted bytes t → o ≡ answer t (set path new)
       answered_there t a =
           let s = reached.stands a.value t (root_there a) a.denotes in
-          let outside = ap (λ b. if b then refused else outcome_there new s.tree) (denoted_enters_none path a.denotes) in
+          let outside = ap (λ b. if b then refused else outcome_there new s.tree) (free a.value t (root_there a) a.denotes) in
           told s.node.value s.tree s.node.held s.node.denotes ∙ sym outside ∙ sym (ap (λ x. if_there x (outcome_at t path new)) s.there)
 
       left_there : (r : Answer) → o ≡ r → PutLeaves bytes to new r after → (t : Tree) (a : Accepted bytes t) → EditLeaves bytes a.value path new r after
@@ -74,7 +79,7 @@ module _ (bytes : List ℕ) where
       left_there missing e p t a = p
       left_there done e p t a =
           let d = done_at t path new (sym (answered_there t a) ∙ e) in
-          record { start = p.start; own = own_there bytes t path d.old new p.start to a (root_there a) d.there d.fitting reached.way p.begins; is = p.is }
+          record { start = p.start; own = own_there bytes t path d.old new p.start to a (root_there a) d.there d.outside d.fitting reached.way p.begins; is = p.is }
       left_there refused e p t a = p
       left_there bad e p t a = p
 
@@ -105,7 +110,7 @@ pub reaches_as : {x y : Bor (List ℕ)} {from root to pos : ℕ} (path : List St
 reaches_as {x = x} {from = from} {root = root} {to = to} {pos = pos} path e f g r =
     subst (λ (b : Bor (List ℕ)). Reaches b.now root path pos) e (subst (λ n. Reaches x.now n path pos) f (subst (λ n. Reaches x.now from path n) (sym g) r))
 
-pub set_as : (bytes : List ℕ) (path : List Step) (lent new : Leaf) (pos : ℕ) (o : Answer) (after : List ℕ) → lent ≡ new → Reaches bytes (root_of bytes) path pos
+pub set_as : (bytes : List ℕ) (path : List Step) (lent new : Leaf) (pos : ℕ) (o : Answer) (after : List ℕ) → lent ≡ new → Reaches bytes (root_of bytes) path pos → OfDocument bytes (root_of bytes) (λ t. enters t path ≡ false)
     → OfDocument bytes pos (λ t. o ≡ outcome_there lent t) → PutLeaves bytes pos lent o after → Sets bytes path new o after
-set_as bytes path lent new pos o after is reached told put =
-    subst (λ l. Sets bytes path l o after) is (one_set bytes path lent pos reached o after told put)
+set_as bytes path lent new pos o after is reached free told put =
+    subst (λ l. Sets bytes path l o after) is (one_set bytes path lent pos reached free o after told put)

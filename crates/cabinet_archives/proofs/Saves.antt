@@ -1,5 +1,5 @@
 -- A document whose archive is made in memory, and written whole or in part.
-use Rattle.std.proofs.Common.{◌≡◌, ℕ, ◌+◌, ◌<◌, ◌≤◌, false, Ok, Err, List, [], ◌++◌, length, append-nil, ◌⊎◌, ⊎_elim, inl, refl, sym, ap, subst, ◌∙◌, arith}
+use Rattle.std.proofs.Common.{◌≡◌, ℕ, Result, ◌+◌, ◌<◌, ◌≤◌, false, Ok, Err, List, [], ◌++◌, length, append-nil, ◌⊎◌, ⊎_elim, inl, refl, sym, ap, subst, ◌∙◌, arith}
 use Rattle.std.specs.Prelude.{IsTrue}
 use Rattle.archive_shape_writing.specs.declared.error.Error.{Error}
 use Rattle.archive_shape_writing.specs.declared.error.Error.TheVariants.{OutOfMemory}
@@ -8,47 +8,60 @@ use Rattle.archive_forms_values.specs.FormsLaws.State.{initial}
 use Rattle.archive_forms_values.specs.FormsLaws.Pointers.{box_spelling}
 use Rattle.archive_forms_values.specs.FormsLaws.Serializing.{IsAt, Serializes}
 use Rattle.cabinet_text_nodes.specs.TextGrammar.Tree.{Tree}
-use Rattle.cabinet_text_nodes.specs.TextGrammar.Wholes.{IsDocument}
+use Rattle.cabinet_text_nodes.specs.TextGrammar.Wholes.{wholes_of, IsNumbered, IsTable, IsDocument}
 use Rattle.archive_shape.specs.ShapeLayout.Holds.{root_position}
 use Rattle.archive_core_validation.proofs.Rooted.{root_held}
 use Rattle.cabinet_archived.specs.Documents.Node.{node_shape, node_names, KnowsNode}
 use Rattle.cabinet_archived.specs.Documents.Image.{Image}
-use Rattle.cabinet_archived.specs.Documents.NoWholes.{HasNoWholes}
-use Rattle.cabinet_archived.specs.Documents.Spelling.{node_value}
+use Rattle.cabinet_archived.specs.Documents.Spelling.{node_spelling, node_value}
 use Rattle.cabinet_archived.specs.Documents.SpellingLaws.{archive_of, ArchiveFits, ArchiveRefused}
-use Rattle.cabinet_archived.proofs.Documents.Imaged.{written_is_image_law, one_image_law}
+use Rattle.cabinet_archived.proofs.Documents.Imaged.{one_image_law}
 use Rattle.cabinet_archived.proofs.Documents.SpellingDenoted.{value_denotes_law}
 use Rattle.cabinet_archived.proofs.Documents.StoredNodes.{refused_is_past_law}
-use Rattle.cabinet_archived.specs.Archived.{archived_as}
+use Rattle.cabinet_archived.specs.Archived.{archived_in, table_in}
+use Rattle.cabinet_archived.specs.declared.node_in.NodeIn.{NodeIn}
+use Rattle.cabinet_text_nodes.proofs.TextGrammar.Tables.{document_table, document_numbered}
 use Rattle.cabinet_text_nodes.specs.View.{node_tree}
-use Rattle.cabinet_text_nodes.specs.declared.node.Node.{Node}
 use Rattle.cabinet_archives.specs.declared.saving.saving.SaveRefusal.{SaveRefusal}
 use Rattle.cabinet_archives.specs.declared.saving.saving.SaveRefusal.TheVariants as refusal
 use Rattle.cabinet_archives.specs.Saving.{IsPast, HasNoImageFor, LosesImage, IsUnsavedFor}
 
-module _ {S : Type 0} (m : WriterMembers S) (n : Node) (old new : S) (at : IsAt m.pos m.known old initial) where
+-- what is written of a document's root beside its wholes is written of the document
+pub as_document : {S : Type 0} (m : WriterMembers S) (x : NodeIn) (t : Tree) (old new : S) (result : Result ℕ Error)
+    → table_in x ≡ wholes_of t → node_tree (wholes_of t) x.node.now ≡ t
+    → Serializes (box_spelling node_shape archived_in) m x old new result
+    → Serializes (box_spelling node_shape (node_spelling (wholes_of t))) m t old new result
+as_document m x t old new result table seen h =
+    subst (λ u. Serializes (box_spelling node_shape (node_spelling (wholes_of t))) m u old new result) seen
+    (subst (λ w. Serializes (box_spelling node_shape (node_spelling w)) m (node_tree w x.node.now) old new result) table h)
+
+-- the wholes of a document's root are in its table
+pub root_in_table : (x : NodeIn) (t : Tree) → table_in x ≡ wholes_of t → node_tree (wholes_of t) x.node.now ≡ t → IsDocument t
+    → IsTable (table_in x) × IsNumbered (table_in x) (node_tree (table_in x) x.node.now)
+root_in_table x t table seen document =
+    subst (λ w. IsTable w × IsNumbered w (node_tree w x.node.now)) (sym table)
+    (document_table t document, subst (IsNumbered (wholes_of t)) (sym seen) (document_numbered t))
+
+module _ {S : Type 0} (m : WriterMembers S) (t : Tree) (old new : S) (at : IsAt m.pos m.known old initial) where
   -- what was written where nothing was before is the archive
   pub archive_made :
       (pos : ℕ) (bytes : List ℕ) → IsTrue m.OBSERVABLE → m.contents old ≡ [] → m.contents new ≡ bytes
-      → Serializes (box_spelling node_shape archived_as) m n old new (Ok pos)
-      → ArchiveFits (node_tree [] n) × (bytes ≡ archive_of (node_tree [] n))
+      → Serializes (box_spelling node_shape (node_spelling (wholes_of t))) m t old new (Ok pos)
+      → ArchiveFits t × (bytes ≡ archive_of t)
   archive_made pos bytes tells none is h =
       let o = h initial at in
-      (o.1.1, sym is ∙ o.0.gains tells ∙ ap (λ l. l ++ archive_of (node_tree [] n)) none)
+      (o.1.1, sym is ∙ o.0.gains tells ∙ ap (λ l. l ++ archive_of t) none)
 
   -- a writer that counts no failures failed only because an allocation failed
-  pub archive_refused :
-      (e : Error) → m.COUNTS ≡ false
-      → Serializes (box_spelling node_shape archived_as) m n old new (Err e)
-      → (e ≡ OutOfMemory) ⊎ ArchiveRefused (node_tree [] n) e
-  archive_refused e uncounted h =
-      ⊎_elim (λ f. inl (subst (λ b. IsCounted b (m.failures old) (m.failures new) e) uncounted f.is_counted).1) (λ q. q.reason) (h initial at)
-
   pub archive_past :
       (e : Error) → m.COUNTS ≡ false → (e ≡ OutOfMemory → ⊥)
-      → Serializes (box_spelling node_shape archived_as) m n old new (Err e)
-      → ArchiveRefused (node_tree [] n) e
-  archive_past e uncounted other h = ⊎_elim (λ q. absurd (other q)) (λ q. q) (archive_refused e uncounted h)
+      → Serializes (box_spelling node_shape (node_spelling (wholes_of t))) m t old new (Err e)
+      → ArchiveRefused t e
+  archive_past e uncounted other h =
+      ⊎_elim
+      (λ f. absurd (other (subst (λ b. IsCounted b (m.failures old) (m.failures new) e) uncounted f.is_counted).1))
+      (λ q. ⊎_elim (λ z. absurd (other z)) (λ z. z) q.reason)
+      (h initial at)
 
 -- ---- a document
 
@@ -75,18 +88,12 @@ nothing_saved m t old image is_image tells =
 
 -- why there is no image in memory is why the document was not saved
 pub unsaved : {W : Type 0} (m : WriterMembers W) (t : Tree) (old : W) (r : SaveRefusal) → HasNoImageFor t r → IsUnsavedFor m t old old r
-unsaved m t old (refusal.Limit e) h = (h.0, h.1, refl)
+unsaved m t old (refusal.Limit e) h = (h, refl)
 unsaved m t old (refusal.Writer e) h = absurd h
-unsaved m t old refusal.OutOfMemory h = (h, inl refl, refl, nothing_saved m t old)
-unsaved m t old refusal.Kind h = (h, refl)
+unsaved m t old refusal.OutOfMemory h = (inl refl, refl, nothing_saved m t old)
 
 -- why nothing was made of a document is why it has no image
-pub past_of : (s t : Tree) (e : Error) → s ≡ t → IsDocument t → HasNoWholes t → ArchiveRefused s e → IsPast t e
-past_of s t e same document none h =
-    let is_document = subst IsDocument (sym same) document in
-    let of_value = value_denotes_law s is_document (subst HasNoWholes (sym same) none) in
-    subst (λ u. IsPast u e) same (node_value s, of_value.0, of_value.1, (refused_is_past_law s (node_value s) e is_document of_value.0 of_value.1).0 h)
-
--- what was made of a document is its image
-pub image_made : (s t : Tree) (bytes : List ℕ) → s ≡ t → IsDocument t → ArchiveFits s → bytes ≡ archive_of s → Image t bytes
-image_made s t bytes same document fits is = subst (λ u. Image u bytes) same (written_is_image_law s bytes (subst IsDocument (sym same) document) fits is)
+pub past_of : (t : Tree) (e : Error) → IsDocument t → ArchiveRefused t e → IsPast t e
+past_of t e document h =
+    let of_value = value_denotes_law t document in
+    (node_value t, of_value.0, of_value.1, (refused_is_past_law t (node_value t) e document of_value.0 of_value.1).0 h)

@@ -11,10 +11,10 @@ use Rattle.cabinet_archived.specs.Documents.Walk.{Stop}
 use Rattle.cabinet_archived.specs.Documents.Audit.{too_deep, unless, faults}
 use Rattle.cabinet_archived.specs.Kind.{IsTagged}
 use Rattle.cabinet_archived.proofs.Documents.NodeWalks.{element_walk}
-use Rattle.cabinet_archived.proofs.Documents.Places.{option_here, list_here, part_of}
+use Rattle.cabinet_archived.proofs.Documents.Places.{option_here, list_here, part_of, whole_here}
 use Rattle.cabinet_archives.specs.Sound.{HasSoundWalk}
 use Rattle.cabinet_archives.proofs.Tags.{tag_is}
-use Rattle.cabinet_archives.proofs.Walked.{Boxed, Inner, payload_place, payload_in, some_in, vector_in}
+use Rattle.cabinet_archives.proofs.Walked.{Boxed, Inner, payload_place, payload_in, some_in, vector_in, whole_in}
 
 pub left_nil : {A : Type 0} (xs ys : List A) → xs ++ ys ≡ [] → xs ≡ []
 left_nil [] ys e = refl
@@ -45,6 +45,11 @@ module _ (bytes : List ℕ) where
   pub some_sound : {pos next : ℕ} → HasValue (option Boxed) KnowsNode bytes pos → HasSoundWalk bytes (part_of option_here pos) → IsSomeAt Boxed KnowsNode bytes pos → PointsTo bytes (pos + 4) next → HasSoundWalk bytes (at next node_shape)
   some_sound has w some points =
       let d = some_in bytes has w.walked some points in
+      record { depth = w.depth + 1; value = d.value; walk = d.run; walked = d.walked; sound = right_nil (unless (nat_lt w.depth 64) too_deep) (faults bytes d.run) (sym d.faults_are ∙ w.sound) }
+
+  pub whole_sound : {pos next : ℕ} → HasSoundWalk bytes (part_of whole_here pos) → PointsTo bytes pos next → HasSoundWalk bytes (at next node_shape)
+  whole_sound w points =
+      let d = whole_in bytes w.walked points in
       record { depth = w.depth + 1; value = d.value; walk = d.run; walked = d.walked; sound = right_nil (unless (nat_lt w.depth 64) too_deep) (faults bytes d.run) (sym d.faults_are ∙ w.sound) }
 
   pub element_sound : {pos to len : ℕ} (i : ℕ) → HasValue (vector node_shape) KnowsNode bytes pos → HasSoundWalk bytes (part_of list_here pos) → IsVecAt node_shape KnowsNode bytes pos to len → i < len

@@ -1,5 +1,5 @@
 -- What a node is, and what one step from it leads to, by its value.
-use Rattle.std.proofs.Common.{◌≡◌, ℕ, zero, suc, ◌<◌, ◌≤◌, List, [], ◌∷◌, ◌++◌, Option, Some, None, refl, sym, ap, subst, ◌∙◌, arith}
+use Rattle.std.proofs.Common.{◌≡◌, ℕ, zero, suc, ◌<◌, ◌≤◌, List, [], ◌∷◌, ◌++◌, Option, Some, None, refl, sym, ap, subst, ◌∙◌, arith, ◌⊎◌, inl, inr}
 use Rattle.archive_shape.specs.ShapeLayout.Value.{Value, Values, count_values}
 use Rattle.archive_shape.specs.ShapeLayout.Value.Value.{string, group, chosen, counted}
 use Rattle.archive_shape.specs.ShapeLayout.Value.Values.{no_values}
@@ -7,16 +7,16 @@ use Rattle.archive_shape.specs.ShapeLayout.Content.{members}
 use Rattle.archive_shape.specs.ShapeLayout.Path.{value_in}
 use Rattle.cabinet_text_nodes.specs.TextGrammar.Keys.{MapKind, ordered, hashed, kept}
 use Rattle.cabinet_text_nodes.specs.TextGrammar.Tree.{Leaf, truth, number, text}
-use Rattle.cabinet_text_nodes.specs.TextGrammar.Tree.{Tree, leaf, shared, nothing, just, list, map, Trees, Pairs}
+use Rattle.cabinet_text_nodes.specs.TextGrammar.Tree.{Tree, leaf, shared, nothing, just, list, map, whole, Trees, Pairs}
 use Rattle.cabinet_text_nodes.specs.TextGrammar.Path.{Step, key, place, inside, node_at, node_in, node_by}
 use Rattle.cabinet_archived.specs.Documents.Denotes.{Denotes, DenoteAll, DenotePairs, tagged_value, pair_value}
-use Rattle.cabinet_archived.specs.Documents.Denotes.Denotes.{denotes_truth, denotes_number, denotes_text, denotes_shared, denotes_nothing, denotes_some, denotes_list, denotes_ordered, denotes_hashed, denotes_kept}
+use Rattle.cabinet_archived.specs.Documents.Denotes.Denotes.{denotes_truth, denotes_number, denotes_text, denotes_shared, denotes_nothing, denotes_some, denotes_list, denotes_ordered, denotes_hashed, denotes_kept, denotes_whole}
 use Rattle.cabinet_archived.specs.Documents.Denotes.DenoteAll.{denote_none, denote_more}
 use Rattle.cabinet_archived.specs.Documents.Denotes.DenotePairs.{denote_no_pairs, denote_pair}
 use Rattle.cabinet_archived.specs.Documents.Laws.{payload_of}
 use Rattle.cabinet_archived.specs.Documents.Order.{arranged}
 use Rattle.cabinet_archived.proofs.Documents.ByKey.{in_order, node_in_order, node_here, node_past, keys_same, keys_differ}
-use Rattle.cabinet_archived.proofs.Documents.Changing.{of_some, of_list}
+use Rattle.cabinet_archived.proofs.Documents.Changing.{of_some, of_list, of_whole}
 use Rattle.cabinet_text_nodes.proofs.Paths.{then_at, first_step}
 
 -- ---- paths, one after the other
@@ -46,6 +46,7 @@ nothing_is e (denotes_list f g d) = absurd (cc)
 nothing_is e (denotes_ordered f g d) = absurd (cc)
 nothing_is e (denotes_hashed f g d) = absurd (cc)
 nothing_is e (denotes_kept f g d) = absurd (cc)
+nothing_is e (denotes_whole f g d) = absurd (cc)
 
 -- the position of a shared text is left out
 pub shared_is : {v : Value} {t : Tree} (at : ℕ) (s : List ℕ) → v ≡ tagged_value 3 (counted at (string s)) → Denotes v t → t ≡ shared s
@@ -59,6 +60,7 @@ shared_is at s e (denotes_list f g d) = absurd (cc)
 shared_is at s e (denotes_ordered f g d) = absurd (cc)
 shared_is at s e (denotes_hashed f g d) = absurd (cc)
 shared_is at s e (denotes_kept f g d) = absurd (cc)
+shared_is at s e (denotes_whole f g d) = absurd (cc)
 
 same_leaf : (l m : Leaf) → payload_of l ≡ payload_of m → l ≡ m
 same_leaf (truth b) (truth c) e = let same : b ≡ c = cc in ap truth same
@@ -83,10 +85,11 @@ leaf_is {tag = tag} l e less p (denotes_list f g d) = let is : tag ≡ 5 = cc in
 leaf_is {tag = tag} l e less p (denotes_ordered f g d) = let is : tag ≡ 6 = cc in absurd (omega (arith, less, is))
 leaf_is {tag = tag} l e less p (denotes_hashed f g d) = let is : tag ≡ 7 = cc in absurd (omega (arith, less, is))
 leaf_is {tag = tag} l e less p (denotes_kept f g d) = let is : tag ≡ 8 = cc in absurd (omega (arith, less, is))
+leaf_is {tag = tag} l e less p (denotes_whole f g d) = let is : tag ≡ 9 = cc in absurd (omega (arith, less, is))
 
 -- ---- steps that lead nowhere
 
--- only a step inside leads on from an option
+-- only a step inside leads on from an option and from a whole
 abbrev pub IsNotInside : Step → Type 0
 IsNotInside inside = ⊥
 IsNotInside s = Unit {0}
@@ -106,6 +109,11 @@ just_other u (key k) other = refl
 just_other u (place i) other = refl
 just_other u inside other = absurd other
 
+whole_other : (u : Tree) (s : Step) → IsNotInside s → node_at (whole u) (s ∷ []) ≡ None
+whole_other u (key k) other = refl
+whole_other u (place i) other = refl
+whole_other u inside other = absurd other
+
 list_other : (ts : Trees) (s : Step) → IsNoPlace s → node_at (list ts) (s ∷ []) ≡ None
 list_other ts (key k) other = refl
 list_other ts (place i) other = absurd other
@@ -116,18 +124,19 @@ map_other kind ps (key k) other = absurd other
 map_other kind ps (place i) other = refl
 map_other kind ps inside other = refl
 
--- an option, a list and a map alone lead on, each by its own step
-pub other_step : {v w : Value} {t : Tree} {tag : ℕ} (s : Step) → v ≡ tagged_value tag w → (tag ≡ 4 → IsNotInside s) → (tag ≡ 5 → IsNoPlace s) → (5 < tag → IsNoKey s) → Denotes v t → node_at t (s ∷ []) ≡ None
+-- an option, a whole, a list and a map alone lead on, each by its own step
+pub other_step : {v w : Value} {t : Tree} {tag : ℕ} (s : Step) → v ≡ tagged_value tag w → ((tag ≡ 4) ⊎ (tag ≡ 9) → IsNotInside s) → (tag ≡ 5 → IsNoPlace s) → (5 < tag → tag < 9 → IsNoKey s) → Denotes v t → node_at t (s ∷ []) ≡ None
 other_step s e apart beside keyless (denotes_truth f g) = ap (λ u. node_at u (s ∷ [])) g
 other_step s e apart beside keyless (denotes_number f g) = ap (λ u. node_at u (s ∷ [])) g
 other_step s e apart beside keyless (denotes_text f g) = ap (λ u. node_at u (s ∷ [])) g
 other_step s e apart beside keyless (denotes_shared f g) = ap (λ u. node_at u (s ∷ [])) g
 other_step s e apart beside keyless (denotes_nothing f g) = ap (λ u. node_at u (s ∷ [])) g
-other_step {tag = tag} s e apart beside keyless (denotes_some {u = u} f g d) = let is : tag ≡ 4 = cc in ap (λ u. node_at u (s ∷ [])) g ∙ just_other u s (apart is)
+other_step {tag = tag} s e apart beside keyless (denotes_some {u = u} f g d) = let is : tag ≡ 4 = cc in ap (λ u. node_at u (s ∷ [])) g ∙ just_other u s (apart (inl is))
 other_step {tag = tag} s e apart beside keyless (denotes_list {ts = ts} f g d) = let is : tag ≡ 5 = cc in ap (λ u. node_at u (s ∷ [])) g ∙ list_other ts s (beside is)
-other_step {tag = tag} s e apart beside keyless (denotes_ordered {ps = ps} f g d) = let is : tag ≡ 6 = cc in ap (λ u. node_at u (s ∷ [])) g ∙ map_other ordered ps s (keyless (omega (arith, is)))
-other_step {tag = tag} s e apart beside keyless (denotes_hashed {ps = ps} f g d) = let is : tag ≡ 7 = cc in ap (λ u. node_at u (s ∷ [])) g ∙ map_other hashed (arranged ps) s (keyless (omega (arith, is)))
-other_step {tag = tag} s e apart beside keyless (denotes_kept {ps = ps} f g d) = let is : tag ≡ 8 = cc in ap (λ u. node_at u (s ∷ [])) g ∙ map_other kept ps s (keyless (omega (arith, is)))
+other_step {tag = tag} s e apart beside keyless (denotes_ordered {ps = ps} f g d) = let is : tag ≡ 6 = cc in ap (λ u. node_at u (s ∷ [])) g ∙ map_other ordered ps s (keyless (omega (arith, is)) (omega (arith, is)))
+other_step {tag = tag} s e apart beside keyless (denotes_hashed {ps = ps} f g d) = let is : tag ≡ 7 = cc in ap (λ u. node_at u (s ∷ [])) g ∙ map_other hashed (arranged ps) s (keyless (omega (arith, is)) (omega (arith, is)))
+other_step {tag = tag} s e apart beside keyless (denotes_kept {ps = ps} f g d) = let is : tag ≡ 8 = cc in ap (λ u. node_at u (s ∷ [])) g ∙ map_other kept ps s (keyless (omega (arith, is)) (omega (arith, is)))
+other_step {tag = tag} s e apart beside keyless (denotes_whole {u = u} f g d) = let is : tag ≡ 9 = cc in ap (λ u. node_at u (s ∷ [])) g ∙ whole_other u s (apart (inr is))
 
 -- and into none there is no step
 pub none_step : {v : Value} {t : Tree} (s : Step) → v ≡ tagged_value 4 (chosen 0 no_values) → Denotes v t → node_at t (s ∷ []) ≡ None
@@ -144,6 +153,13 @@ pub record StepFound (u : Value) (s : Step) (t : Tree) : Type 0 where
 pub some_step : {v u : Value} {t : Tree} → v ≡ tagged_value 4 (tagged_value 1 u) → Denotes v t → StepFound u inside t
 some_step e d =
     let o = of_some e d in
+    record { tree = o.inner; there = ap (λ t. node_at t (inside ∷ [])) o.is; denotes = o.denotes }
+
+-- ---- wholes
+
+pub whole_step : {v u : Value} {t : Tree} {at : ℕ} → v ≡ tagged_value 9 (counted at u) → Denotes v t → StepFound u inside t
+whole_step e d =
+    let o = of_whole e d in
     record { tree = o.inner; there = ap (λ t. node_at t (inside ∷ [])) o.is; denotes = o.denotes }
 
 -- ---- lists
@@ -220,8 +236,8 @@ kind_of (suc (suc (suc (suc (suc (suc zero)))))) = ordered
 kind_of (suc (suc (suc (suc (suc (suc (suc zero))))))) = hashed
 kind_of tag = kept
 
-pub map_by : {v w : Value} {t : Tree} {tag : ℕ} → v ≡ tagged_value tag w → 5 < tag → Denotes v t → MapBy (kind_of tag) w t
-map_by {v = v} {w = w} {t = t} {tag = tag} e high d = by refl d
+pub map_by : {v w : Value} {t : Tree} {tag : ℕ} → v ≡ tagged_value tag w → 5 < tag → tag < 9 → Denotes v t → MapBy (kind_of tag) w t
+map_by {v = v} {w = w} {t = t} {tag = tag} e high low d = by refl d
   where
     some : (n : ℕ) (ps : Pairs) (vs : Values) → tag ≡ n → w ≡ group vs → t ≡ map (kind_of n) (in_order (kind_of n) ps) → DenotePairs vs ps → MapBy (kind_of tag) w t
     some n ps vs is same g ds =
@@ -239,16 +255,17 @@ map_by {v = v} {w = w} {t = t} {tag = tag} e high d = by refl d
     by q (denotes_ordered {vs = vs} {ps = ps} f g ds) = let is : tag ≡ 6 = cc in let same : w ≡ group vs = cc in some 6 ps vs is same g ds
     by q (denotes_hashed {vs = vs} {ps = ps} f g ds) = let is : tag ≡ 7 = cc in let same : w ≡ group vs = cc in some 7 ps vs is same g ds
     by q (denotes_kept {vs = vs} {ps = ps} f g ds) = let is : tag ≡ 8 = cc in let same : w ≡ group vs = cc in some 8 ps vs is same g ds
+    by q (denotes_whole f g ds) = let is : tag ≡ 9 = cc in absurd (omega (arith, low, is))
 
 -- ---- a step by a key
 
-pub key_step : {v w : Value} {t : Tree} {tag : ℕ} (k : List ℕ) (i : ℕ) (u : Value) → v ≡ tagged_value tag w → 5 < tag → value_in i (members w) ≡ Some (pair_value k u)
+pub key_step : {v w : Value} {t : Tree} {tag : ℕ} (k : List ℕ) (i : ℕ) (u : Value) → v ≡ tagged_value tag w → 5 < tag → tag < 9 → value_in i (members w) ≡ Some (pair_value k u)
     → ((j : ℕ) (other : Value) → j < i → value_in j (members w) ≡ Some (pair_value k other) → ⊥)
     → Denotes v t → StepFound u (key k) t
-key_step {tag = tag} k i u e high at first d =
-    let o = map_by e high d in
+key_step {tag = tag} k i u e high low at first d =
+    let o = map_by e high low d in
     let r = pair_found k i u o.denotes at first in
     record { tree = r.tree; there = ap (λ t. node_at t (key k ∷ [])) o.is ∙ (node_in_order (kind_of tag) k [] o.pairs ∙ r.there); denotes = r.denotes }
 
-pub no_key_step : {v w : Value} {t : Tree} {tag : ℕ} (k : List ℕ) → v ≡ tagged_value tag w → 5 < tag → ((i : ℕ) (u : Value) → value_in i (members w) ≡ Some (pair_value k u) → ⊥) → Denotes v t → node_at t (key k ∷ []) ≡ None
-no_key_step {tag = tag} k e high none d = let o = map_by e high d in ap (λ t. node_at t (key k ∷ [])) o.is ∙ (node_in_order (kind_of tag) k [] o.pairs ∙ pair_missing k o.denotes none)
+pub no_key_step : {v w : Value} {t : Tree} {tag : ℕ} (k : List ℕ) → v ≡ tagged_value tag w → 5 < tag → tag < 9 → ((i : ℕ) (u : Value) → value_in i (members w) ≡ Some (pair_value k u) → ⊥) → Denotes v t → node_at t (key k ∷ []) ≡ None
+no_key_step {tag = tag} k e high low none d = let o = map_by e high low d in ap (λ t. node_at t (key k ∷ [])) o.is ∙ (node_in_order (kind_of tag) k [] o.pairs ∙ pair_missing k o.denotes none)

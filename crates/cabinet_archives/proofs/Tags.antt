@@ -9,11 +9,11 @@ use Rattle.archive_shape.specs.ShapeLayout.Value.{Value}
 use Rattle.archive_shape.specs.ShapeLayout.Content.{Names}
 use Rattle.archive_forms_values.specs.Parts.{HasValue}
 use Rattle.archive_forms_values.proofs.FormsLaws.Levels.{option_box_sized}
-use Rattle.cabinet_archived.specs.Documents.Node.{node_shape, KnowsNode}
+use Rattle.cabinet_archived.specs.Documents.Node.{node_shape, KnowsNode, whole_shape}
 use Rattle.cabinet_archived.specs.Documents.Denotes.{tagged_value}
 use Rattle.cabinet_archived.specs.Kind.{IsTagged, IsKindAt}
 use Rattle.cabinet_archived.specs.declared.kind.ArchivedKind.{ArchivedKind}
-use Rattle.cabinet_archived.proofs.Nodes.{tagged_at, is_kept}
+use Rattle.cabinet_archived.proofs.Nodes.{tagged_at, is_whole}
 use Rattle.cabinet_archives.specs.Keyed.{knows_pairs}
 use Rattle.cabinet_archives.specs.Hashed.{table_shape}
 use Rattle.cabinet_archives.specs.Kept.{index_shape}
@@ -37,9 +37,10 @@ module _ (bytes : List ℕ) (pos : ℕ) (there : HasValue node_shape KnowsNode b
   by_tag (suc (suc (suc (suc (suc zero))))) e = of_kind 5 (vector node_shape) KnowsNode (pos + 4) e (tagged_at bytes pos there 5 (vector node_shape) KnowsNode _ refl e refl (omega arith) (omega arith) (λ names known. known))
   by_tag (suc (suc (suc (suc (suc (suc zero)))))) e = of_kind 6 map_shape knows_pairs (pos + 4) e (tagged_at bytes pos there 6 map_shape knows_pairs _ refl e refl (omega arith) (omega arith) (λ names known. (tt, known)))
   by_tag (suc (suc (suc (suc (suc (suc (suc zero))))))) e = of_kind 7 table_shape knows_pairs (pos + 4) e (tagged_at bytes pos there 7 table_shape knows_pairs _ refl e refl (omega arith) (omega arith) (λ names known. (tt, known)))
-  by_tag (suc (suc (suc (suc (suc (suc (suc (suc n)))))))) e =
-      let eight = is_kept bytes pos there (λ f. omega arith, λ f. omega arith, λ f. omega arith, λ f. omega arith, λ f. omega arith, λ f. omega arith, λ f. omega arith, λ f. omega arith) in
-      of_kind 8 index_shape knows_pairs (pos + 4) eight (tagged_at bytes pos there 8 index_shape knows_pairs _ refl eight refl (omega arith) (omega arith) (λ names known. (tt, known)))
+  by_tag (suc (suc (suc (suc (suc (suc (suc (suc zero)))))))) e = of_kind 8 index_shape knows_pairs (pos + 4) e (tagged_at bytes pos there 8 index_shape knows_pairs _ refl e refl (omega arith) (omega arith) (λ names known. (tt, known)))
+  by_tag (suc (suc (suc (suc (suc (suc (suc (suc (suc n))))))))) e =
+      let nine = is_whole bytes pos there (λ f. omega arith, λ f. omega arith, λ f. omega arith, λ f. omega arith, λ f. omega arith, λ f. omega arith, λ f. omega arith, λ f. omega arith, λ f. omega arith) in
+      of_kind 9 whole_shape KnowsNode (pos + 4) nine (tagged_at bytes pos there 9 whole_shape KnowsNode _ refl nine refl (omega arith) (omega arith) (λ names known. known))
 
   -- of a node whose payload has a kind, it is the kind's
   pub tag_is : {tag : ℕ} {s : Shape} {knows : Names → Type 0} {to : ℕ} → IsTagged bytes pos tag s knows to → slice_index bytes pos ≡ tag

@@ -21,8 +21,8 @@ use Rattle.cabinet_archived.specs.Documents.Order.{ascend}
 use Rattle.cabinet_archived.specs.Documents.Table.{item_keys}
 use Rattle.cabinet_archived.specs.Documents.Walk.{Stop, Walks, WalkAll}
 use Rattle.cabinet_archived.specs.Documents.Audit.{too_deep, keys_not_ascending, unless, faults}
-use Rattle.cabinet_archived.proofs.Documents.Places.{Place, node_here, option_here, list_here, ordered_here, table_here, index_here, part_of}
-use Rattle.cabinet_archived.proofs.Documents.NodeWalks.{OptionWalk, walks_none, walks_some, NodeWalk, leaf_walks, option_walks, list_walks, ordered_walks, hashed_walks, kept_walks, option_walk, list_walk, node_walk}
+use Rattle.cabinet_archived.proofs.Documents.Places.{Place, node_here, option_here, list_here, ordered_here, table_here, index_here, part_of, whole_here}
+use Rattle.cabinet_archived.proofs.Documents.NodeWalks.{OptionWalk, walks_none, walks_some, NodeWalk, leaf_walks, option_walks, list_walks, ordered_walks, hashed_walks, kept_walks, option_walk, list_walk, node_walk, whole_walks, whole_walk}
 use Rattle.cabinet_archived.proofs.Documents.TreeWalks.{no_items, MapWalked, map_walked, empty_map_walked, text_quiet}
 
 abbrev pub Boxed : Shape
@@ -34,7 +34,8 @@ payload_place (suc (suc (suc (suc zero)))) = option_here
 payload_place (suc (suc (suc (suc (suc zero))))) = list_here
 payload_place (suc (suc (suc (suc (suc (suc zero)))))) = ordered_here
 payload_place (suc (suc (suc (suc (suc (suc (suc zero))))))) = table_here
-payload_place tag = index_here
+payload_place (suc (suc (suc (suc (suc (suc (suc (suc zero)))))))) = index_here
+payload_place tag = whole_here
 
 module _ (bytes : List ℕ) where
   -- ---- nodes
@@ -57,6 +58,7 @@ module _ (bytes : List ℕ) where
         by (ordered_walks e is run f) = absurd (omega (arith, low, e))
         by (hashed_walks e is run f) = absurd (omega (arith, low, e))
         by (kept_walks e is run f) = absurd (omega (arith, low, e))
+        by (whole_walks e is run f) = absurd (omega (arith, low, e))
 
     -- the walk of a container's node has the faults of its payload's
     pub payload_in : (tag : ℕ) → slice_index bytes pos ≡ tag → 3 < tag → Inner depth (part_of (payload_place tag) (pos + 4)) walk
@@ -72,6 +74,7 @@ module _ (bytes : List ℕ) where
         by (ordered_walks {w = w} {run = run} e is walked f) = of 6 e (record { value = w; run = run; walked = walked; faults_are = f })
         by (hashed_walks {w = w} {run = run} e is walked f) = of 7 e (record { value = w; run = run; walked = walked; faults_are = f })
         by (kept_walks {w = w} {run = run} e is walked f) = of 8 e (record { value = w; run = run; walked = walked; faults_are = f })
+        by (whole_walks {w = w} {run = run} e is walked f) = of 9 e (record { value = w; run = run; walked = walked; faults_are = f })
 
   -- ---- options
 
@@ -108,6 +111,15 @@ module _ (bytes : List ℕ) where
         by (walks_some {to = to} {w = w} {run = run} e target is node f) =
             let same : to ≡ next = cc in
             record { value = w; run = run; walked = subst (λ n. Walks node_names bytes (depth + 1) (part_of node_here n) w run) same node; faults_are = f }
+
+  -- ---- wholes
+
+  pub whole_in : {depth pos next : ℕ} {v : Value} {walk : List Stop} → Walks node_names bytes depth (part_of whole_here pos) v walk → PointsTo bytes pos next → Deeper depth (part_of node_here next) walk
+  whole_in {depth = depth} {pos = pos} {next = next} h points =
+      let w = whole_walk bytes pos h in
+      let target = w.target in
+      let same : w.to ≡ next = cc in
+      record { value = w.inner; run = w.run; walked = subst (λ n. Walks node_names bytes (depth + 1) (part_of node_here n) w.inner w.run) same w.node; faults_are = w.faults_are }
 
   -- ---- lists
 

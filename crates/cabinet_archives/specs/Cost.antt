@@ -45,7 +45,7 @@ Searches t k n = (n ≡ strides_to t.capacity (found t k) (searched t.controls (
 
 -- a step looks up a key in a map, whose tag is 6, 7 or 8
 abbrev pub IsLookUp : List ℕ → ℕ → Step → Type 0
-IsLookUp bytes from s = (k : List ℕ) × (s ≡ key k) × (5 < slice_index bytes from)
+IsLookUp bytes from s = (k : List ℕ) × (s ≡ key k) × (5 < slice_index bytes from) × (slice_index bytes from < 9)
 
 -- what a step from the node at `from` takes, by the kind of the map
 pub data StepTakes (bytes : List ℕ) (from : ℕ) (s : Step) (comparisons searches : ℕ) : Type 0 where

@@ -1,18 +1,31 @@
--- The trees that are loaded, and the texts that are kept meanwhile.
-use Rattle.std.specs.Prelude.{◌≡◌, ℕ, ◌+◌, ◌≤◌, List, IfSome}
-use Rattle.std.specs.BTreeMap.{get}
+-- The trees that are loaded, and the texts and the wholes that are kept meanwhile.
+use Rattle.std.specs.Prelude.{◌≡◌, ⊤, ℕ, ◌+◌, ◌≤◌, List, [], ◌∷◌, All, String, Vec, IfSome, Some}
+use Rattle.std.specs.BTreeMap.{BTreeMap, get}
 use Rattle.std.specs.Ordering.{match_ordering, nat_cmp, ordering_then}
 use Rattle.std.specs.Cmp.Lexicographic.{slice_cmp}
 use Rattle.std.specs.Rc.{rc_str_bytes}
 use Rattle.std.specs.declared.cmp.Ordering.{Ordering}
 use Rattle.archive_shape.specs.ShapeLayout.Bytes.{window}
+use Rattle.std.specs.declared.alloc.Global.{Global}
 use Rattle.archive_shape.specs.ShapeLayout.Shape.{Shape}
+use Rattle.archive_shape.specs.ShapeLayout.Shape.Shape.{text}
+use Rattle.archive_shape.specs.ShapeLayout.Value.Value.{string}
 use Rattle.archive_shape.specs.ShapeLayout.Value.{Value}
 use Rattle.archive_shape.specs.ShapeLayout.Content.{Names}
 use Rattle.archive_shape.specs.Key.{HeldAt}
-use Rattle.cabinet_text_nodes.specs.TextGrammar.Tree.{Tree, Pairs, no_pairs, more_pairs, IsLegal, depth as height}
+use Rattle.archive_forms_values.specs.Parts.{HasValue}
+use Rattle.cabinet_text_nodes.specs.TextGrammar.Completing.{text_in}
+use Rattle.cabinet_text_nodes.specs.TextGrammar.Tree.{Tree, Pairs, no_pairs, more_pairs, IsLegal, depth as height, map}
+use Rattle.cabinet_text_nodes.specs.TextGrammar.Keys.{MapKind}
+use Rattle.cabinet_text_nodes.specs.TextGrammar.Wholes.{IsTable, numbered, with_wholes, with_wholes_by}
+use Rattle.cabinet_text_nodes.specs.View.{node_tree, node_pairs, table_of}
+use Rattle.cabinet_text_nodes.specs.declared.node.Node.{Node}
 use Rattle.cabinet_archived.specs.Documents.Denotes.{Denotes}
+use Rattle.cabinet_archived.specs.Documents.Node.{node_shape, KnowsNode}
+use Rattle.cabinet_archives.specs.Found.{OfDocument}
+use Rattle.cabinet_archives.specs.Keyed.{knows_pairs}
 use Rattle.cabinet_archives.specs.declared.loading.texts.LoadedTexts.{LoadedTexts}
+use Rattle.cabinet_archives.specs.declared.loading.wholes.LoadedWholes.{LoadedWholes}
 
 -- the value at `pos`, which `node` makes the value of a node, denotes a legal tree of at most 64 containers in one
 -- another, the `outer` ones around the tree among them
@@ -41,7 +54,58 @@ abbrev pub added : List ℕ → Tree → Pairs → Pairs
 added k t no_pairs = more_pairs k t no_pairs
 added k t (more_pairs l u ps) = match_ordering (slice_cmp nat_cmp k l) (more_pairs k t (more_pairs l u ps)) (more_pairs l t ps) (more_pairs l u (added k t ps))
 
--- a pair added behind others
-abbrev pub appended : List ℕ → Tree → Pairs → Pairs
-appended k t no_pairs = more_pairs k t no_pairs
-appended k t (more_pairs l u ps) = more_pairs l u (appended k t ps)
+-- pairs added to others, one after the other
+abbrev pub all_added : Pairs → Pairs → Pairs
+all_added no_pairs others = others
+all_added (more_pairs k t ps) others = all_added ps (added k t others)
+
+-- ---- wholes
+
+abbrev pub loaded_table : LoadedWholes → List Tree
+loaded_table wholes = table_of wholes.nodes.items
+
+-- the order of the texts of wholes
+abbrev pub text_cmp : Vec ℕ Global → Vec ℕ Global → Ordering
+text_cmp a b = slice_cmp nat_cmp a.items b.items
+
+-- the numbers of a table: each tree is found by its text, and no text leads to another
+pub record AreNumbersOf (table : List Tree) (numbers : BTreeMap (Vec ℕ Global) ℕ) : Type 0 where
+  pub found : (n : ℕ) (t : Tree) → numbered table n ≡ Some t → (key : Vec ℕ Global) → key.items ≡ text_in table t → get text_cmp numbers key ≡ Some n
+  pub told : (key : Vec ℕ Global) → IfSome (get text_cmp numbers key) (λ n. (t : Tree) × (numbered table n ≡ Some t) × (key.items ≡ text_in table t))
+
+-- the nodes at these positions have the trees with these numbers
+abbrev pub AreRead : List ℕ → List Tree → BTreeMap ℕ ℕ → Type 0
+AreRead bytes table read = (pos : ℕ) → IfSome (get nat_cmp read pos) (λ n. OfDocument bytes pos (λ t. numbered table n ≡ Some t))
+
+-- wholes that were loaded of the bytes
+pub record AreWholesOf (bytes : List ℕ) (wholes : LoadedWholes) : Type 0 where
+  pub table : IsTable (loaded_table wholes)
+  pub numbers : AreNumbersOf (loaded_table wholes) wholes.numbers
+  pub read : AreRead bytes (loaded_table wholes) wholes.read
+
+-- a node is loaded as the one with a tree, after these wholes, which then are those that the tree adds to them
+abbrev pub IsLoaded : LoadedWholes → LoadedWholes → Node → Tree → Type 0
+IsLoaded old new node t = (node_tree (loaded_table new) node ≡ t) × (loaded_table new ≡ with_wholes (loaded_table old) t)
+
+-- the same of the pairs of a map
+abbrev pub ArePairsLoaded : LoadedWholes → LoadedWholes → List (String Global × Node) → Pairs → Type 0
+ArePairsLoaded old new pairs ps = (node_pairs (loaded_table new) pairs ≡ ps) × (loaded_table new ≡ with_wholes_by (loaded_table old) ps)
+
+-- ---- the entries of maps, by the positions of their keys and nodes
+
+-- a key and a node are there; the node lies inside `outer` containers
+abbrev pub IsEntry : List ℕ → ℕ → ℕ × ℕ → Type 0
+IsEntry bytes outer entry = HasValue text (λ _. ⊤) bytes entry.0 × HasTree (λ v. v) node_shape KnowsNode bytes entry.1 outer
+
+-- the keys and the nodes of entries are those of these pairs
+abbrev pub LeadTo : List ℕ → List (ℕ × ℕ) → Pairs → Type 0
+LeadTo bytes [] no_pairs = ⊤
+LeadTo bytes (entry ∷ entries) (more_pairs k t ps) =
+    HeldAt text (λ _. ⊤) bytes entry.0 (string k) × ((v : Value) × HeldAt node_shape KnowsNode bytes entry.1 v × Denotes v t) × LeadTo bytes entries ps
+LeadTo bytes _ _ = ⊥
+
+-- entries lead to all pairs of a map of this kind, in the order of the map
+abbrev pub AreEntriesOf : MapKind → (Value → Value) → Shape → List ℕ → ℕ → List (ℕ × ℕ) → Type 0
+AreEntriesOf kind node s bytes pos entries =
+    (outer : ℕ) → HasTree node s knows_pairs bytes pos outer
+    → All (IsEntry bytes (outer + 1)) entries × OfTree node s knows_pairs bytes pos (λ t. (ps : Pairs) × (t ≡ map kind ps) × LeadTo bytes entries ps)

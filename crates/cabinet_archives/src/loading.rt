@@ -1,8 +1,9 @@
 //! Loading the document that bytes are the archive of.
 
+mod entries;
 mod loading;
 mod nodes;
-mod pairs;
 mod texts;
+mod wholes;
 
 pub use loading::load;

@@ -20,7 +20,7 @@ use Rattle.archive_forms_values.specs.ShapeCanonical.Canonical.{IsCanonical, Are
 use Rattle.archive_forms_values.specs.ShapeCanonical.Laws.{IsOnward, AvoidsKey, AvoidsKeys, AvoidKeys}
 use Rattle.cabinet_documents.specs.Node.{node_names}
 use Rattle.cabinet_documents.specs.Denotes.{pair_value}
-use Rattle.cabinet_documents.proofs.Places.{Place, node_here, payload_here, truth_here, number_here, text_here, shared_here, option_here, box_here, ordered_here, table_here, index_here, pair_here, tree_node, tree_child, entry_here, buckets_here, numbers_here, entry_number, nodes_behind, pairs_behind, text_behind, Spot, part_of, parts_at, nodes_from, pairs_from, entries_from, children_from, items_from, numbers_from, Passes, node_passes, box_passes, behind_passes, list_passes, text_passes, child_passes, table_passes, Pays, pays_truth, pays_number, pays_text, pays_shared, pays_option, pays_list, pays_ordered, pays_hashed, pays_kept, Follows, passes, pays, truth_is, number_is, text_is, behind_is, none_is, some_is, nodes_follow, empty_is, total_is, leaf_follows, inner_follows, no_child_is, entry_follows, no_items_is, items_follow, no_entries_is, entries_second, numbers_follow, entry_number_is, pairs_follow, pair_follows, Leads, leads_nowhere, leads_plain, leads_claimed, leads_counted, led}
+use Rattle.cabinet_documents.proofs.Places.{Place, node_here, payload_here, truth_here, number_here, text_here, shared_here, option_here, box_here, ordered_here, table_here, index_here, whole_here, pair_here, tree_node, tree_child, entry_here, buckets_here, numbers_here, entry_number, nodes_behind, pairs_behind, text_behind, Spot, part_of, parts_at, nodes_from, pairs_from, entries_from, children_from, items_from, numbers_from, Passes, node_passes, box_passes, behind_passes, list_passes, text_passes, child_passes, table_passes, Pays, pays_truth, pays_number, pays_text, pays_shared, pays_option, pays_list, pays_ordered, pays_hashed, pays_kept, pays_whole, Follows, passes, pays, truth_is, number_is, text_is, behind_is, none_is, some_is, nodes_follow, empty_is, total_is, leaf_follows, inner_follows, no_child_is, entry_follows, no_items_is, items_follow, no_entries_is, entries_second, numbers_follow, entry_number_is, pairs_follow, pair_follows, Leads, leads_nowhere, leads_plain, leads_claimed, leads_counted, leads_whole, led}
 use Rattle.cabinet_documents.proofs.Leading.{ToLeaf, FromPair, IntoPart, Aims, IsSpot, value_is, payload_aims, only_spot, each_spot, entry_spot, tagged_spot, child_spot, spot_behind, same_through, second_through, total_through, whole_through, child_through, entry_through, pair_below, pair_in, item_here, behind_key}
 use Rattle.cabinet_documents.proofs.Steps.{place_of}
 
@@ -72,6 +72,7 @@ module _ (bytes : List ℕ) where
   payload_free p pos inner pays_ordered = tt
   payload_free p pos inner pays_hashed = tt
   payload_free p pos inner pays_kept = tt
+  payload_free p pos inner pays_whole = tt
 
   paid_aims : {tag : ℕ} {j : Place} (u : Value) (inner : List ℕ) → Pays tag j → Aims (place_of tag) u inner → Aims j u inner
   paid_aims u inner pays_truth a = tt
@@ -83,6 +84,7 @@ module _ (bytes : List ℕ) where
   paid_aims u inner pays_ordered a = a
   paid_aims u inner pays_hashed a = a
   paid_aims u inner pays_kept a = a
+  paid_aims u inner pays_whole a = a
 
   paid : {tag : ℕ} {j : Place} (p : ℕ) → Pays tag j → Goes payload_here (tagged tag) (record { place = j; pos = p } ∷ [])
   unfolding made
@@ -250,6 +252,8 @@ module _ (bytes : List ℕ) where
   spots {l = l} k (leads_claimed {l = m} {qs = qs} g fs b) (says_claimed e) = let label : m ≡ l = cc in record { qs = qs; are = cc; follow = subst (λ x. Follows bytes k x qs) label fs }
   spots shared_here (leads_counted g) (says_plain e) = absurd (cc)
   spots shared_here (leads_counted g) (says_claimed e) = absurd (cc)
+  spots whole_here (leads_whole g) (says_plain e) = absurd (cc)
+  spots whole_here (leads_whole g) (says_claimed e) = absurd (cc)
 
   -- a path in part i of some, at the spots given, leads to a leaf
   abbrev AimsIn : List Spot → Values → ℕ → List ℕ → Type 0

@@ -1,5 +1,5 @@
 -- The pairs of a map by their keys: distinct keys, a change at a key, and pairs in the order of their keys.
-use Rattle.std.proofs.Common.{◌≡◌, ◌≢◌, ℕ, suc, Bool, true, false, if◌then◌else◌, cond, List, [], ◌∷◌, Contains, All, refl, sym, ap, ap₂, subst, ◌∙◌, arith, ◌⊎◌, inl, inr}
+use Rattle.std.proofs.Common.{◌≡◌, ◌≢◌, ℕ, suc, Bool, true, false, if◌then◌else◌, cond, List, [], ◌∷◌, Contains, All, Option, Some, None, refl, sym, ap, ap₂, subst, ◌∙◌, arith, ◌⊎◌, inl, inr}
 use Rattle.std.specs.Prelude.{⊤}
 use Rattle.std.specs.Str.{bytes_eq}
 use Rattle.std.specs.Ordering.{is_lt, ordering_reverse}
@@ -10,7 +10,7 @@ use Rattle.std.proofs.lemmas.Cmp.{tied_itself}
 use Rattle.std.proofs.lemmas.Slice.Eq.{bytes_eq-Decides}
 use Rattle.cabinet_text_grammar.specs.Keys.{MapKind, ordered, hashed, kept, IsBelow, IsAboveLast, MayFollow}
 use Rattle.cabinet_text_grammar.specs.Tree.{Leaf, Tree, Pairs, no_pairs, more_pairs, IsLegal, ArePairs}
-use Rattle.cabinet_text_grammar.specs.Path.{Step, node_at, node_by}
+use Rattle.cabinet_text_grammar.specs.Path.{Step, node_at, node_by, enters, enters_by}
 use Rattle.cabinet_text_grammar.specs.Answering.{change, change_by}
 use Rattle.cabinet_documents.specs.Order.{is_below, inserted, arranged}
 
@@ -28,6 +28,12 @@ module _ (n : List ℕ) (t : Tree) (ps : Pairs) (a : List ℕ) (path : List Step
 
   pub node_past : bytes_eq n a ≡ false → node_by (more_pairs n t ps) a path ≡ node_by ps a path
   node_past e = ap (λ x. if x then node_at t path else node_by ps a path) e
+
+  pub enters_here : bytes_eq n a ≡ true → enters_by (more_pairs n t ps) a path ≡ enters t path
+  enters_here e = ap (λ x. if x then enters t path else enters_by ps a path) e
+
+  pub enters_past : bytes_eq n a ≡ false → enters_by (more_pairs n t ps) a path ≡ enters_by ps a path
+  enters_past e = ap (λ x. if x then enters t path else enters_by ps a path) e
 
 pub keys_same : (k l : List ℕ) → k ≡ l → bytes_eq k l ≡ true
 keys_same k l e = (bytes_eq-Decides k l).1 e
@@ -221,6 +227,22 @@ pub node_in_order : (kind : MapKind) (a : List ℕ) (path : List Step) (ps : Pai
 node_in_order ordered a path ps = refl
 node_in_order hashed a path ps = node_arranged a path ps
 node_in_order kept a path ps = refl
+
+-- a path by a key leads into a whole where it does from the key's node on
+abbrev pub enters_from : Option Tree → List Step → Bool
+enters_from None path = false
+enters_from (Some t) path = enters t path
+
+pub enters_by_node : (a : List ℕ) (path : List Step) (ps : Pairs) → enters_by ps a path ≡ enters_from (node_by ps a []) path
+enters_by_node a path no_pairs = refl
+enters_by_node a path (more_pairs n t ps) = by (bytes_eq n a) refl (enters_by_node a path ps)
+  where
+    by : (b : Bool) → bytes_eq n a ≡ b → enters_by ps a path ≡ enters_from (node_by ps a []) path → enters_by (more_pairs n t ps) a path ≡ enters_from (node_by (more_pairs n t ps) a []) path
+    by true e later = enters_here n t ps a path e ∙ ap (λ o. enters_from o path) (sym (node_here n t ps a [] e))
+    by false e later = enters_past n t ps a path e ∙ later ∙ ap (λ o. enters_from o path) (sym (node_past n t ps a [] e))
+
+pub enters_in_order : (kind : MapKind) (a : List ℕ) (path : List Step) (ps : Pairs) → enters_by (in_order kind ps) a path ≡ enters_by ps a path
+enters_in_order kind a path ps = enters_by_node a path (in_order kind ps) ∙ ap (λ o. enters_from o path) (node_in_order kind a [] ps) ∙ sym (enters_by_node a path ps)
 
 pub change_in_order : (kind : MapKind) (a : List ℕ) (path : List Step) (new : Leaf) (ps : Pairs) → AreDistinct (in_order kind ps)
     → change_by (in_order kind ps) a path new ≡ in_order kind (change_by ps a path new)

@@ -2,7 +2,7 @@
 use Rattle.std.proofs.Common.{◌≡◌, ℕ, ℤ, Bool, zero, suc, true, false, cond, List, [], ◌∷◌, ◌++◌, Option, Some, refl, sym, ap, subst, ◌∙◌, ◌<◌, arith, ◌⊎◌, inl, inr, ◌≢◌}
 use Rattle.std.specs.Str.{bytes_eq}
 use Rattle.archive_forms_values.specs.ShapeLayout.Value.{Value, Values}
-use Rattle.archive_forms_values.specs.ShapeLayout.Value.Value.{boolean, integer, string, group}
+use Rattle.archive_forms_values.specs.ShapeLayout.Value.Value.{boolean, integer, string, group, counted}
 use Rattle.archive_forms_values.specs.ShapeLayout.Value.Values.{no_values}
 use Rattle.archive_forms_values.specs.ShapeLayout.Path.{put_at, value_in}
 use Rattle.archive_forms_values.specs.ShapeLayout.Path as layout
@@ -10,11 +10,11 @@ use Rattle.cabinet_text_grammar.specs.Keys.{MapKind, ordered, hashed, kept}
 use Rattle.cabinet_text_grammar.specs.Tree.{Leaf, truth, number, text}
 use Rattle.cabinet_text_grammar.specs.Path.{Step, key, place, inside}
 use Rattle.cabinet_text_grammar.specs.Answering.{fits}
-use Rattle.cabinet_text_grammar.specs.Tree.{Tree, Trees, Pairs, leaf, just, list, map, IsLegal, AreLegal}
+use Rattle.cabinet_text_grammar.specs.Tree.{Tree, Trees, Pairs, leaf, just, list, map, whole, IsLegal, AreLegal}
 use Rattle.cabinet_text_grammar.specs.Path.{node_at, node_in, node_by}
 use Rattle.cabinet_text_grammar.specs.Answering.{change, change_in, change_by}
 use Rattle.cabinet_documents.specs.Denotes.{Denotes, DenoteAll, DenotePairs, tagged_value, pair_value}
-use Rattle.cabinet_documents.specs.Denotes.Denotes.{denotes_truth, denotes_number, denotes_text, denotes_shared, denotes_nothing, denotes_some, denotes_list, denotes_ordered, denotes_hashed, denotes_kept}
+use Rattle.cabinet_documents.specs.Denotes.Denotes.{denotes_truth, denotes_number, denotes_text, denotes_shared, denotes_nothing, denotes_some, denotes_list, denotes_ordered, denotes_hashed, denotes_kept, denotes_whole}
 use Rattle.cabinet_documents.specs.Denotes.DenoteAll.{denote_none, denote_more}
 use Rattle.cabinet_documents.specs.Denotes.DenotePairs.{denote_no_pairs, denote_pair}
 use Rattle.cabinet_documents.specs.OwnBytes.{LeadsTo, leads_here, leads_inside, leads_place, leads_key}
@@ -56,6 +56,7 @@ of_some g (denotes_list e f k) = absurd (cc)
 of_some g (denotes_ordered e f k) = absurd (cc)
 of_some g (denotes_hashed e f k) = absurd (cc)
 of_some g (denotes_kept e f k) = absurd (cc)
+of_some g (denotes_whole e f k) = absurd (cc)
 
 pub record IsList (vs : Values) (t : Tree) : Type 0 where
   pub elements : Trees
@@ -73,6 +74,25 @@ of_list {vs = vs} g (denotes_list {vs = ws} {ts = ts} e f k) = let same : ws ≡
 of_list g (denotes_ordered e f k) = absurd (cc)
 of_list g (denotes_hashed e f k) = absurd (cc)
 of_list g (denotes_kept e f k) = absurd (cc)
+of_list g (denotes_whole e f k) = absurd (cc)
+
+pub record IsWhole (u : Value) (t : Tree) : Type 0 where
+  pub inner : Tree
+  pub is : t ≡ whole inner
+  pub denotes : Denotes u inner
+
+pub of_whole : {v u : Value} {at : ℕ} {t : Tree} → v ≡ tagged_value 9 (counted at u) → Denotes v t → IsWhole u t
+of_whole g (denotes_truth e f) = absurd (cc)
+of_whole g (denotes_number e f) = absurd (cc)
+of_whole g (denotes_text e f) = absurd (cc)
+of_whole g (denotes_shared e f) = absurd (cc)
+of_whole g (denotes_nothing e f) = absurd (cc)
+of_whole g (denotes_some e f k) = absurd (cc)
+of_whole g (denotes_list e f k) = absurd (cc)
+of_whole g (denotes_ordered e f k) = absurd (cc)
+of_whole g (denotes_hashed e f k) = absurd (cc)
+of_whole g (denotes_kept e f k) = absurd (cc)
+of_whole {u = u} g (denotes_whole {w = w} {u = x} e f k) = let same : w ≡ u = cc in record { inner = x; is = f; denotes = subst (λ y. Denotes y x) same k }
 
 -- the tag of each kind of map, which is none of the others
 abbrev pub kind_tag : MapKind → ℕ
@@ -118,6 +138,7 @@ of_map {tag = tag} g high (denotes_list e f k) = let low : 5 ≡ tag = cc in abs
 of_map {vs = vs} g high (denotes_ordered {vs = ws} {ps = ps} e f k) = let same : ws ≡ vs = cc in record { kind = ordered; tagged = cc; is_map = record { pairs = ps; is = f; denotes = subst (λ y. DenotePairs y ps) same k } }
 of_map {vs = vs} g high (denotes_hashed {vs = ws} {ps = ps} e f k) = let same : ws ≡ vs = cc in record { kind = hashed; tagged = cc; is_map = record { pairs = ps; is = f; denotes = subst (λ y. DenotePairs y ps) same k } }
 of_map {vs = vs} g high (denotes_kept {vs = ws} {ps = ps} e f k) = let same : ws ≡ vs = cc in record { kind = kept; tagged = cc; is_map = record { pairs = ps; is = f; denotes = subst (λ y. DenotePairs y ps) same k } }
+of_map g high (denotes_whole e f k) = absurd (cc)
 
 one_kind : (kind other : MapKind) → kind_tag kind ≡ kind_tag other → kind ≡ other
 one_kind ordered ordered e = refl
@@ -166,6 +187,7 @@ module _ (new : Leaf) where
   put_here (denotes_ordered e f k) old g h = absurd (cc)
   put_here (denotes_hashed e f k) old g h = absurd (cc)
   put_here (denotes_kept e f k) old g h = absurd (cc)
+  put_here (denotes_whole e f k) old g h = absurd (cc)
 
 -- ---- what a path leads to
 

@@ -12,7 +12,7 @@ use Rattle.cabinet_documents.specs.Audit.{IsMapSound}
 use Rattle.cabinet_documents.proofs.ByKey.{AreKeysDistinct}
 use Rattle.cabinet_documents.proofs.Heights.{height, Keyed}
 use Rattle.cabinet_documents.proofs.Stops.{peak, peak_low, peak_raise}
-use Rattle.cabinet_documents.proofs.Places.{Place, node_here, option_here, list_here, ordered_here, table_here, index_here, tree_node, tree_child, buckets_here, numbers_here, entry_number, Spot, part_of, is_behind, each_from, tagged_from, entries_from, children_from}
+use Rattle.cabinet_documents.proofs.Places.{Place, node_here, option_here, list_here, ordered_here, table_here, index_here, whole_here, tree_node, tree_child, buckets_here, numbers_here, entry_number, Spot, part_of, is_behind, each_from, tagged_from, entries_from, children_from}
 use Rattle.cabinet_documents.proofs.TableSound.{IsPlainSound}
 
 abbrev pub lift : Place → ℕ
@@ -21,6 +21,7 @@ lift list_here = 1
 lift ordered_here = 1
 lift table_here = 1
 lift index_here = 1
+lift whole_here = 1
 lift k = 0
 
 abbrev pub contains : Place → Bool
@@ -29,6 +30,7 @@ contains list_here = true
 contains ordered_here = true
 contains table_here = true
 contains index_here = true
+contains whole_here = true
 contains k = false
 
 -- no container
@@ -38,6 +40,7 @@ is_plain list_here = false
 is_plain ordered_here = false
 is_plain table_here = false
 is_plain index_here = false
+is_plain whole_here = false
 is_plain k = true
 
 -- the keys of the map at a place ascend, or are distinct
@@ -81,6 +84,7 @@ plain_lift list_here e = absurd (cc)
 plain_lift ordered_here e = absurd (cc)
 plain_lift table_here e = absurd (cc)
 plain_lift index_here e = absurd (cc)
+plain_lift whole_here e = absurd (cc)
 plain_lift k e = refl
 
 pub plain_own : (k : Place) (v : Value) → is_plain k ≡ true → OwnKeyed k v

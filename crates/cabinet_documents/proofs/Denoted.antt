@@ -3,7 +3,7 @@ use Rattle.std.proofs.Common.{◌≡◌, sym, subst}
 use Rattle.archive_forms_values.specs.ShapeLayout.Value.{Value, Values}
 use Rattle.cabinet_text_grammar.specs.Tree.{Tree, Trees, Pairs}
 use Rattle.cabinet_documents.specs.Denotes.{Denotes, DenoteAll, DenotePairs}
-use Rattle.cabinet_documents.specs.Denotes.Denotes.{denotes_truth, denotes_number, denotes_text, denotes_shared, denotes_nothing, denotes_some, denotes_list, denotes_ordered, denotes_hashed, denotes_kept}
+use Rattle.cabinet_documents.specs.Denotes.Denotes.{denotes_truth, denotes_number, denotes_text, denotes_shared, denotes_nothing, denotes_some, denotes_list, denotes_ordered, denotes_hashed, denotes_kept, denotes_whole}
 use Rattle.cabinet_documents.specs.Denotes.DenoteAll.{denote_none, denote_more}
 use Rattle.cabinet_documents.specs.Denotes.DenotePairs.{denote_no_pairs, denote_pair}
 
@@ -19,6 +19,7 @@ mutual
   one_tree (denotes_truth e f) (denotes_ordered e' f' h') = absurd (cc)
   one_tree (denotes_truth e f) (denotes_hashed e' f' h') = absurd (cc)
   one_tree (denotes_truth e f) (denotes_kept e' f' h') = absurd (cc)
+  one_tree (denotes_truth e f) (denotes_whole e' f' h') = absurd (cc)
   one_tree (denotes_number e f) (denotes_truth e' f') = absurd (cc)
   one_tree (denotes_number {n = n} e f) (denotes_number {n = n'} e' f') = let ex : n ≡ n' = cc in cc
   one_tree (denotes_number e f) (denotes_text e' f') = absurd (cc)
@@ -29,6 +30,7 @@ mutual
   one_tree (denotes_number e f) (denotes_ordered e' f' h') = absurd (cc)
   one_tree (denotes_number e f) (denotes_hashed e' f' h') = absurd (cc)
   one_tree (denotes_number e f) (denotes_kept e' f' h') = absurd (cc)
+  one_tree (denotes_number e f) (denotes_whole e' f' h') = absurd (cc)
   one_tree (denotes_text e f) (denotes_truth e' f') = absurd (cc)
   one_tree (denotes_text e f) (denotes_number e' f') = absurd (cc)
   one_tree (denotes_text {s = s} e f) (denotes_text {s = s'} e' f') = let ex : s ≡ s' = cc in cc
@@ -39,6 +41,7 @@ mutual
   one_tree (denotes_text e f) (denotes_ordered e' f' h') = absurd (cc)
   one_tree (denotes_text e f) (denotes_hashed e' f' h') = absurd (cc)
   one_tree (denotes_text e f) (denotes_kept e' f' h') = absurd (cc)
+  one_tree (denotes_text e f) (denotes_whole e' f' h') = absurd (cc)
   one_tree (denotes_shared e f) (denotes_truth e' f') = absurd (cc)
   one_tree (denotes_shared e f) (denotes_number e' f') = absurd (cc)
   one_tree (denotes_shared e f) (denotes_text e' f') = absurd (cc)
@@ -49,6 +52,7 @@ mutual
   one_tree (denotes_shared e f) (denotes_ordered e' f' h') = absurd (cc)
   one_tree (denotes_shared e f) (denotes_hashed e' f' h') = absurd (cc)
   one_tree (denotes_shared e f) (denotes_kept e' f' h') = absurd (cc)
+  one_tree (denotes_shared e f) (denotes_whole e' f' h') = absurd (cc)
   one_tree (denotes_nothing e f) (denotes_truth e' f') = absurd (cc)
   one_tree (denotes_nothing e f) (denotes_number e' f') = absurd (cc)
   one_tree (denotes_nothing e f) (denotes_text e' f') = absurd (cc)
@@ -59,6 +63,7 @@ mutual
   one_tree (denotes_nothing e f) (denotes_ordered e' f' h') = absurd (cc)
   one_tree (denotes_nothing e f) (denotes_hashed e' f' h') = absurd (cc)
   one_tree (denotes_nothing e f) (denotes_kept e' f' h') = absurd (cc)
+  one_tree (denotes_nothing e f) (denotes_whole e' f' h') = absurd (cc)
   one_tree (denotes_some e f h) (denotes_truth e' f') = absurd (cc)
   one_tree (denotes_some e f h) (denotes_number e' f') = absurd (cc)
   one_tree (denotes_some e f h) (denotes_text e' f') = absurd (cc)
@@ -69,6 +74,7 @@ mutual
   one_tree (denotes_some e f h) (denotes_ordered e' f' h') = absurd (cc)
   one_tree (denotes_some e f h) (denotes_hashed e' f' h') = absurd (cc)
   one_tree (denotes_some e f h) (denotes_kept e' f' h') = absurd (cc)
+  one_tree (denotes_some e f h) (denotes_whole e' f' h') = absurd (cc)
   one_tree (denotes_list e f h) (denotes_truth e' f') = absurd (cc)
   one_tree (denotes_list e f h) (denotes_number e' f') = absurd (cc)
   one_tree (denotes_list e f h) (denotes_text e' f') = absurd (cc)
@@ -79,6 +85,7 @@ mutual
   one_tree (denotes_list e f h) (denotes_ordered e' f' h') = absurd (cc)
   one_tree (denotes_list e f h) (denotes_hashed e' f' h') = absurd (cc)
   one_tree (denotes_list e f h) (denotes_kept e' f' h') = absurd (cc)
+  one_tree (denotes_list e f h) (denotes_whole e' f' h') = absurd (cc)
   one_tree (denotes_ordered e f h) (denotes_truth e' f') = absurd (cc)
   one_tree (denotes_ordered e f h) (denotes_number e' f') = absurd (cc)
   one_tree (denotes_ordered e f h) (denotes_text e' f') = absurd (cc)
@@ -89,6 +96,7 @@ mutual
   one_tree (denotes_ordered {vs = vs} {ps = ps} e f h) (denotes_ordered {vs = vs'} {ps = ps'} e' f' h') = let ev : vs ≡ vs' = cc in let et : ps ≡ ps' = one_pairs h (subst (λ x. DenotePairs x ps') (sym ev) h') in cc
   one_tree (denotes_ordered e f h) (denotes_hashed e' f' h') = absurd (cc)
   one_tree (denotes_ordered e f h) (denotes_kept e' f' h') = absurd (cc)
+  one_tree (denotes_ordered e f h) (denotes_whole e' f' h') = absurd (cc)
   one_tree (denotes_hashed e f h) (denotes_truth e' f') = absurd (cc)
   one_tree (denotes_hashed e f h) (denotes_number e' f') = absurd (cc)
   one_tree (denotes_hashed e f h) (denotes_text e' f') = absurd (cc)
@@ -99,6 +107,7 @@ mutual
   one_tree (denotes_hashed e f h) (denotes_ordered e' f' h') = absurd (cc)
   one_tree (denotes_hashed {vs = vs} {ps = ps} e f h) (denotes_hashed {vs = vs'} {ps = ps'} e' f' h') = let ev : vs ≡ vs' = cc in let et : ps ≡ ps' = one_pairs h (subst (λ x. DenotePairs x ps') (sym ev) h') in cc
   one_tree (denotes_hashed e f h) (denotes_kept e' f' h') = absurd (cc)
+  one_tree (denotes_hashed e f h) (denotes_whole e' f' h') = absurd (cc)
   one_tree (denotes_kept e f h) (denotes_truth e' f') = absurd (cc)
   one_tree (denotes_kept e f h) (denotes_number e' f') = absurd (cc)
   one_tree (denotes_kept e f h) (denotes_text e' f') = absurd (cc)
@@ -109,6 +118,18 @@ mutual
   one_tree (denotes_kept e f h) (denotes_ordered e' f' h') = absurd (cc)
   one_tree (denotes_kept e f h) (denotes_hashed e' f' h') = absurd (cc)
   one_tree (denotes_kept {vs = vs} {ps = ps} e f h) (denotes_kept {vs = vs'} {ps = ps'} e' f' h') = let ev : vs ≡ vs' = cc in let et : ps ≡ ps' = one_pairs h (subst (λ x. DenotePairs x ps') (sym ev) h') in cc
+  one_tree (denotes_kept e f h) (denotes_whole e' f' h') = absurd (cc)
+  one_tree (denotes_whole e f h) (denotes_truth e' f') = absurd (cc)
+  one_tree (denotes_whole e f h) (denotes_number e' f') = absurd (cc)
+  one_tree (denotes_whole e f h) (denotes_text e' f') = absurd (cc)
+  one_tree (denotes_whole e f h) (denotes_shared e' f') = absurd (cc)
+  one_tree (denotes_whole e f h) (denotes_nothing e' f') = absurd (cc)
+  one_tree (denotes_whole e f h) (denotes_some e' f' h') = absurd (cc)
+  one_tree (denotes_whole e f h) (denotes_list e' f' h') = absurd (cc)
+  one_tree (denotes_whole e f h) (denotes_ordered e' f' h') = absurd (cc)
+  one_tree (denotes_whole e f h) (denotes_hashed e' f' h') = absurd (cc)
+  one_tree (denotes_whole e f h) (denotes_kept e' f' h') = absurd (cc)
+  one_tree (denotes_whole {w = w} {u = u} e f h) (denotes_whole {w = w'} {u = u'} e' f' h') = let ew : w ≡ w' = cc in let et = one_tree h (subst (λ x. Denotes x u') (sym ew) h') in cc
 
   pub one_trees : {vs : Values} {ss ts : Trees} → DenoteAll vs ss → DenoteAll vs ts → ss ≡ ts
   one_trees (denote_none e f) (denote_none e' f') = cc

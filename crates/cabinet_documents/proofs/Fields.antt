@@ -23,86 +23,13 @@ use Rattle.archive_forms_values.specs.ArchiveShape.Bytes.{zeros}
 use Rattle.archive_forms_values.specs.FormsLaws.State.{State, Met, visit_of_key, IsNoneOf, IsOneOf}
 use Rattle.archive_forms_values.specs.FormsLaws.Spelling.{Spelling}
 use Rattle.archive_forms_values.specs.FormsLaws.Texts.{is_short, text_piece, text_own, text_resolver, text_piece_refused, text_own_refused, boxed_text_spelling}
-use Rattle.archive_forms_values.specs.FormsLaws.Shared.{shared_padding, shared_piece, shared_resolver, shared_met, shared_refused}
+use Rattle.archive_forms_values.specs.FormsLaws.Shared.{shared_padding, first_visit, shared_piece, shared_resolver, shared_met, shared_refused}
 use Rattle.archive_forms_rc.specs.FormsWriting.Owned.{str_spelling}
-use Rattle.cabinet_text_grammar.specs.TextKey.{text_key, text_of_key}
-use Rattle.cabinet_text_grammar.proofs.KeyLemmas.{key_has_text_law}
+use Rattle.cabinet_documents.specs.SharedKeys.{key_of_text}
 use Rattle.cabinet_documents.specs.Spelling.{shared_string_spelling}
+use Rattle.cabinet_documents.proofs.Values.{shared_string}
+use Rattle.cabinet_documents.proofs.SharedMet.{Sharing, Begun, Spares, no_text_begun, shared_at, Alike as MetAlike, met_unmet, not_met, met_there, one_met}
 use Rattle.cabinet_documents.proofs.Plans.{TextPlan, is_inline, is_far, text_plan, one_plan}
-
--- ---- the shared texts that were written
-
-abbrev pub shared_at : List ℕ → ℕ → Shared
-shared_at t n = record { pointee = str; value = string t; pos = n }
-
--- a shared value of a plan is one that was written: a text, under its number
-pub record IsOfText (a : Shared) (m : Met) : Type 0 where
-  pub text : List ℕ
-  pub is : a ≡ shared_at text m.visit.pos
-  pub key : m.key ≡ text_key text
-
--- all are, each once
-abbrev pub Alike : List Shared → List Met → Type 0
-Alike [] [] = ⊤
-Alike [] (m ∷ ms) = ⊥
-Alike (a ∷ seen) [] = ⊥
-Alike (a ∷ seen) (m ∷ ms) = IsOfText a m × IsUnmet a.pointee a.value seen × Alike seen ms
-
-same_string : {s t : List ℕ} → string s ≡ string t → s ≡ t
-same_string e = cc
-
-same_key : (s t : List ℕ) → text_key s ≡ text_key t → s ≡ t
-same_key s t h = sym (key_has_text_law s) ∙ ap text_of_key h ∙ key_has_text_law t
-
-not_met : (t : List ℕ) (seen : List Shared) (ms : List Met) → Alike seen ms → visit_of_key ms (text_key t) ≡ None → IsUnmet str (string t) seen
-not_met t [] [] a e = tt
-not_met t [] (m ∷ ms) a e = absurd a
-not_met t (x ∷ seen) [] a e = absurd a
-not_met t (x ∷ seen) (m ∷ ms) a e =
-    let others = visit_of_key ms (text_key t) in
-    elim (eqb_tells m.key (text_key t)) [
-      | inl is ↦ let some : Some m.visit ≡ None = sym (ap (λ b. cond b (Some m.visit) others) is.0) ∙ e in absurd cc
-      | inr differs ↦
-          let rest : others ≡ None = sym (ap (λ b. cond b (Some m.visit) others) differs.0) ∙ e in
-          let here : x.value ≡ string t → ⊥ = λ same.
-          let one : a.0.text ≡ t = same_string (sym (ap (λ (s : Shared). s.value) a.0.is) ∙ same) in
-          differs.1 (a.0.key ∙ ap text_key one) in
-          ((λ type same. here same), not_met t seen ms a.2 rest)
-    ]
-
-met_there : (t : List ℕ) (seen : List Shared) (ms : List Met) (v : Visit) → Alike seen ms → visit_of_key ms (text_key t) ≡ Some v → IsMetAt str (string t) v.pos seen
-met_there t [] [] v a e = absurd cc
-met_there t [] (m ∷ ms) v a e = absurd a
-met_there t (x ∷ seen) [] v a e = absurd a
-met_there t (x ∷ seen) (m ∷ ms) v a e =
-    let others = visit_of_key ms (text_key t) in
-    elim (eqb_tells m.key (text_key t)) [
-      | inl is ↦
-          let found : Some m.visit ≡ Some v = sym (ap (λ b. cond b (Some m.visit) others) is.0) ∙ e in
-          let visit : m.visit ≡ v = cc in
-          let one : a.0.text ≡ t = same_key a.0.text t (sym a.0.key ∙ is.1) in
-          inl (sym (a.0.is ∙ ap₂ shared_at one (ap (λ (z : Visit). z.pos) visit)))
-      | inr differs ↦
-          let rest : others ≡ Some v = sym (ap (λ b. cond b (Some m.visit) others) differs.0) ∙ e in
-          inr (met_there t seen ms v a.2 rest)
-    ]
-
-met_unmet : (q : Pointee) (v : Value) (n : ℕ) (seen : List Shared) → IsUnmet q v seen → IsMetAt q v n seen → ⊥
-met_unmet q v n [] u g = g
-met_unmet q v n (x ∷ seen) u (inl e) = u.0 (sym (ap (λ (s : Shared). s.pointee) e)) (sym (ap (λ (s : Shared). s.value) e))
-met_unmet q v n (x ∷ seen) u (inr g) = met_unmet q v n seen u.1 g
-
-unmet_as : (q : Pointee) (v : Value) (n : ℕ) (x : Shared) (seen : List Shared) → record { pointee = q; value = v; pos = n } ≡ x → IsUnmet x.pointee x.value seen → IsUnmet q v seen
-unmet_as q v n x seen e u =
-    subst (λ p. IsUnmet p v seen) (sym (ap (λ (s : Shared). s.pointee) e)) (subst (λ y. IsUnmet x.pointee y seen) (sym (ap (λ (s : Shared). s.value) e)) u)
-
-one_met : (q : Pointee) (v : Value) (n k : ℕ) (seen : List Shared) (ms : List Met) → Alike seen ms → IsMetAt q v n seen → IsMetAt q v k seen → n ≡ k
-one_met q v n k [] ms a f g = absurd f
-one_met q v n k (x ∷ seen) [] a f g = absurd a
-one_met q v n k (x ∷ seen) (m ∷ ms) a (inl e) (inl f) = ap (λ (s : Shared). s.pos) (e ∙ sym f)
-one_met q v n k (x ∷ seen) (m ∷ ms) a (inl e) (inr g) = absurd (met_unmet q v k seen (unmet_as q v n x seen e a.1) g)
-one_met q v n k (x ∷ seen) (m ∷ ms) a (inr f) (inl e) = absurd (met_unmet q v n seen (unmet_as q v k x seen e a.1) f)
-one_met q v n k (x ∷ seen) (m ∷ ms) a (inr f) (inr g) = one_met q v n k seen ms a.2 f g
 
 -- the state of a plan where the next byte is that of a state of writing
 abbrev pub laid : State → List Shared → limits.State
@@ -192,29 +119,6 @@ text_lies n own st b all (lies_text ends fields) = (ends, fields)
 abbrev pub IsFar : ℕ → Error → Type 0
 IsFar n e = (2 ^ 32 ≤ n) × (e ≡ PositionTooLarge)
 
--- a value that was laid out stores a field past a limit where writing it is refused, unless it ends too far, and writing
--- it is refused where it stores one
-pub record Reads {A R : Type 0} (w : Spelling A R) (x : A) (s : State) (own : ℕ) (fs : List Field) (b : limits.State) : Type 0 where
-  pub alike : Alike b.met (w.met x s)
-  pub there : b.pos ≡ s.pos + length (w.piece x s)
-  pub piece_past : (e : Error) → w.piece_refused x s e → IsSomePast fs e ⊎ IsFar b.pos e
-  pub own_past : (e : Error) → w.own_refused x (w.resolver x s) own e → IsSomePast fs e
-  pub refused : (e : Error) → IsSomePast fs e → w.piece_refused x s e ⊎ w.own_refused x (w.resolver x s) own e
-
--- a value without data
-pub no_fields :
-    {A R : Type 0} (w : Spelling A R) (x : A) (s : State) (seen : List Shared) (own : ℕ) (fs : List Field) (b : limits.State)
-    → Alike seen s.met → w.met x s ≡ s.met → w.piece x s ≡ []
-    → ((e : Error) → w.piece_refused x s e → ⊥) → ((e : Error) → w.own_refused x (w.resolver x s) own e → ⊥)
-    → (fs ≡ []) × (b ≡ laid s seen) → Reads w x s own fs b
-no_fields w x s seen own fs b alike met piece no_data no_own ends = record {
-  alike = subst (Alike b.met) (sym met) (subst (λ (z : limits.State). Alike z.met s.met) (sym ends.1) alike);
-  there = ap (λ (z : limits.State). z.pos) ends.1 ∙ sym (add-zero s.pos) ∙ ap (λ l. s.pos + length l) (sym piece);
-  piece_past = λ e r. absurd (no_data e r);
-  own_past = λ e r. absurd (no_own e r);
-  refused = λ e h. absurd (subst (λ l. IsSomePast l e) ends.0 h);
-}
-
 -- ---- texts
 
 -- a text has eight own bytes
@@ -253,26 +157,6 @@ module _ (t : List ℕ) (s : State) (own : ℕ) (e : Error) where
   text_past (inr (inr (inl long))) = inl (inl long)
   text_past (inr (inr (inr none))) = absurd none
 
-pub text_reads : (t : List ℕ) (s : State) (seen : List Shared) (own : ℕ) (p : Plan) (fs : List Field) (b : limits.State)
-    → TextPlan t p → Alike seen s.met → Lies p own (laid s seen) fs b → Reads str_spelling t s own fs b
-text_reads t s seen own p fs b (is_inline short p_is) alike h =
-    let is = short_is t short in
-    no_fields str_spelling t s seen own fs b alike refl (ap (λ x. text_piece x t) is)
-    (λ e r. subst (λ x. text_piece_refused x t s.pos e) is r)
-    (λ e r. subst (λ x. text_own_refused x t (text_resolver x s.pos) own e) is r)
-    (flat_lies own (laid s seen) b fs (subst (λ x. Lies x own (laid s seen) fs b) p_is h))
-text_reads t s seen own p fs b (is_far long p_is) alike h =
-    let is = long_is t long in
-    let ends = text_lies (length t) own (laid s seen) b fs (subst (λ x. Lies x own (laid s seen) fs b) p_is h) in
-    let fields = ends.1 in
-    record {
-      alike = subst (λ (z : limits.State). Alike z.met s.met) (sym ends.0) alike;
-      there = ap (λ (z : limits.State). z.pos) ends.0 ∙ ap (λ x. s.pos + length (text_piece x t)) (sym is);
-      piece_past = λ e r. inl (subst (λ l. IsSomePast l e) (sym fields) (text_piece_past t s own e (subst (λ x. text_piece_refused x t s.pos e) is r)));
-      own_past = λ e r. subst (λ l. IsSomePast l e) (sym fields) (text_own_past t s own e (subst (λ x. text_own_refused x t (text_resolver x s.pos) own e) is r));
-      refused = λ e r. subst (λ x. text_piece_refused x t s.pos e ⊎ text_own_refused x t (text_resolver x s.pos) own e) (sym is) (text_past t s own e (subst (λ l. IsSomePast l e) fields r));
-    }
-
 -- ---- shared texts
 
 -- every position is aligned to 1
@@ -289,7 +173,7 @@ padded_end start n t counted =
     tested false = omega (arith, length-append t (zeros 0))
 
 abbrev after_first : List ℕ → ℕ → List Shared → limits.State
-after_first t start seen = record { pos = end_of_shared start (start + length t); met = shared_at t start ∷ seen }
+after_first t start seen = record { pos = end_of_shared start (start + length t); met = shared_at (shared_string t) start ∷ seen }
 
 abbrev first_fields : ℕ → ℕ → ℕ → List Field
 first_fields own start n = position start ∷ (offset own start ∷ (count n ∷ []))
@@ -307,80 +191,142 @@ module _ (t : List ℕ) (own to : ℕ) (e : Error) where
   past_later (inr (inl long)) = inr long
   past_later (inr (inr none)) = absurd none
 
-module _ (t : List ℕ) (s : State) (begun : s.begun ≡ []) (new : visit_of_key s.met (text_key t) ≡ None) (e : Error) where
-  abbrev FirstRefused : Type 0
-  FirstRefused = shared_refused str length text_key boxed_text_spelling t s None e
+pub one_and_none : (k : ℕ) (ks : List ℕ) → IsOneOf k ks → IsNoneOf k ks → ⊥
+one_and_none k [] one none = one
+one_and_none k (x ∷ ks) (inl is) none = none.0 is
+one_and_none k (x ∷ ks) (inr later) none = one_and_none k ks later none.1
 
-  first_refused : FirstRefused → (2 ^ 32 ≤ s.pos) × (e ≡ PositionTooLarge)
-  first_refused (inl cyclic) = absurd (subst (IsOneOf (text_key t)) begun cyclic.0)
-  first_refused (inr (inl high)) = high.1
-  first_refused (inr (inr finished)) = absurd (finished.0 new)
+module _ (g : Sharing) where
+  -- what is met is what was written
+  abbrev pub Alike : List Shared → List Met → Type 0
+  Alike = MetAlike g.keys
 
-  refused_first : (2 ^ 32 ≤ s.pos) × (e ≡ PositionTooLarge) → FirstRefused
-  refused_first high = inr (inl (subst (IsNoneOf (text_key t)) (sym begun) tt, high))
+  -- a value that was laid out stores a field past a limit where writing it is refused, unless it ends too far, and writing
+  -- it is refused where it stores one
+  pub record Reads {A R : Type 0} (w : Spelling A R) (x : A) (s : State) (own : ℕ) (fs : List Field) (b : limits.State) : Type 0 where
+    pub alike : Alike b.met (w.met x s)
+    pub spares : Spares g s.met (w.met x s)
+    pub there : b.pos ≡ s.pos + length (w.piece x s)
+    pub piece_past : (e : Error) → w.piece_refused x s e → IsSomePast fs e ⊎ IsFar b.pos e
+    pub own_past : (e : Error) → w.own_refused x (w.resolver x s) own e → IsSomePast fs e
+    pub refused : (e : Error) → IsSomePast fs e → w.piece_refused x s e ⊎ w.own_refused x (w.resolver x s) own e
 
-module _ (t : List ℕ) (s : State) (seen : List Shared) (alike : Alike seen s.met) (begun : s.begun ≡ []) (own : ℕ) where
-  abbrev SharedReads : List Field → limits.State → Type 0
-  SharedReads fs b = Reads shared_string_spelling t s own fs b
+  -- a value without data
+  pub no_fields :
+      {A R : Type 0} (w : Spelling A R) (x : A) (s : State) (seen : List Shared) (own : ℕ) (fs : List Field) (b : limits.State)
+      → Alike seen s.met → w.met x s ≡ s.met → w.piece x s ≡ []
+      → ((e : Error) → w.piece_refused x s e → ⊥) → ((e : Error) → w.own_refused x (w.resolver x s) own e → ⊥)
+      → (fs ≡ []) × (b ≡ laid s seen) → Reads w x s own fs b
+  no_fields w x s seen own fs b alike met piece no_data no_own ends = record {
+    alike = subst (Alike b.met) (sym met) (subst (λ (z : limits.State). Alike z.met s.met) (sym ends.1) alike);
+    spares = λ k o e. ap (λ m. visit_of_key m k) met ∙ e;
+    there = ap (λ (z : limits.State). z.pos) ends.1 ∙ sym (add-zero s.pos) ∙ ap (λ l. s.pos + length l) (sym piece);
+    piece_past = λ e r. absurd (no_data e r);
+    own_past = λ e r. absurd (no_own e r);
+    refused = λ e h. absurd (subst (λ l. IsSomePast l e) ends.0 h);
+  }
 
-  -- what is written of a text, by what was visited under its number
-  abbrev pieces_by : Option Visit → List ℕ
-  pieces_by o = shared_piece str length text_key boxed_text_spelling t s o
-
-  first_reads : (fs : List Field) (b : limits.State) → visit_of_key s.met (text_key t) ≡ None → IsUnmet str (string t) seen
-      → b ≡ after_first t s.pos seen → fs ≡ first_fields own s.pos (length t) → SharedReads fs b
-  first_reads fs b new unmet ends fields =
-      let w = boxed_text_spelling in
-      let here : Alike (shared_at t s.pos ∷ seen) (shared_met str length text_key w t s None) = (record { text = t; is = refl; key = refl }, unmet, alike) in
+  pub text_reads : (t : List ℕ) (s : State) (seen : List Shared) (own : ℕ) (p : Plan) (fs : List Field) (b : limits.State)
+      → TextPlan t p → Alike seen s.met → Lies p own (laid s seen) fs b → Reads str_spelling t s own fs b
+  text_reads t s seen own p fs b (is_inline short p_is) alike h =
+      let is = short_is t short in
+      no_fields str_spelling t s seen own fs b alike refl (ap (λ x. text_piece x t) is)
+      (λ e r. subst (λ x. text_piece_refused x t s.pos e) is r)
+      (λ e r. subst (λ x. text_own_refused x t (text_resolver x s.pos) own e) is r)
+      (flat_lies own (laid s seen) b fs (subst (λ x. Lies x own (laid s seen) fs b) p_is h))
+  text_reads t s seen own p fs b (is_far long p_is) alike h =
+      let is = long_is t long in
+      let ends = text_lies (length t) own (laid s seen) b fs (subst (λ x. Lies x own (laid s seen) fs b) p_is h) in
+      let fields = ends.1 in
       record {
-        alike = subst (λ o. Alike b.met (shared_met str length text_key w t s o)) (sym new)
-            (subst (λ (z : limits.State). Alike z.met (shared_met str length text_key w t s None)) (sym ends) here);
-        there = ap (λ (z : limits.State). z.pos) ends ∙ padded_end s.pos (length t) t refl ∙ ap (λ o. s.pos + length (pieces_by o)) (sym new);
-        piece_past = λ e r. inl (subst (λ l. IsSomePast l e) (sym fields)
-            (inl (first_refused t s begun new e (subst (λ o. shared_refused str length text_key w t s o e) new r))));
-        own_past = λ e r. subst (λ l. IsSomePast l e) (sym fields)
-            (inr (later_past t own s.pos e (subst (λ o. w.own_refused t (shared_resolver str length text_key w t s o) own e) new r)));
-        refused = λ e r.
-            subst (λ o. shared_refused str length text_key w t s o e ⊎ w.own_refused t (shared_resolver str length text_key w t s o) own e) (sym new)
-            (⊎_elim (λ high. inl (refused_first t s begun new e high)) (λ p. inr (past_later t own s.pos e p)) (subst (λ l. IsSomePast l e) fields r));
+        alike = subst (λ (z : limits.State). Alike z.met s.met) (sym ends.0) alike;
+        spares = λ k o e. e;
+        there = ap (λ (z : limits.State). z.pos) ends.0 ∙ ap (λ x. s.pos + length (text_piece x t)) (sym is);
+        piece_past = λ e r. inl (subst (λ l. IsSomePast l e) (sym fields) (text_piece_past t s own e (subst (λ x. text_piece_refused x t s.pos e) is r)));
+        own_past = λ e r. subst (λ l. IsSomePast l e) (sym fields) (text_own_past t s own e (subst (λ x. text_own_refused x t (text_resolver x s.pos) own e) is r));
+        refused = λ e r. subst (λ x. text_piece_refused x t s.pos e ⊎ text_own_refused x t (text_resolver x s.pos) own e) (sym is) (text_past t s own e (subst (λ l. IsSomePast l e) fields r));
       }
 
-  later_reads : (fs : List Field) (b : limits.State) (v : Visit) → visit_of_key s.met (text_key t) ≡ Some v
-      → b ≡ laid s seen → fs ≡ later_fields own v.pos (length t) → SharedReads fs b
-  later_reads fs b v met ends fields =
-      let w = boxed_text_spelling in
-      record {
-        alike = subst (λ o. Alike b.met (shared_met str length text_key w t s o)) (sym met) (subst (λ (z : limits.State). Alike z.met s.met) (sym ends) alike);
-        there = ap (λ (z : limits.State). z.pos) ends ∙ sym (add-zero s.pos) ∙ ap (λ o. s.pos + length (pieces_by o)) (sym met);
-        piece_past = λ e r. absurd (subst (λ o. shared_refused str length text_key w t s o e) met r);
-        own_past = λ e r. subst (λ l. IsSomePast l e) (sym fields)
-            (later_past t own v.pos e (subst (λ o. w.own_refused t (shared_resolver str length text_key w t s o) own e) met r));
-        refused = λ e r.
-            subst (λ o. shared_refused str length text_key w t s o e ⊎ w.own_refused t (shared_resolver str length text_key w t s o) own e) (sym met)
-            (inr (past_later t own v.pos e (subst (λ l. IsSomePast l e) fields r)));
-      }
+  module _ (t : List ℕ) (s : State) (begun : Begun g s.begun) (new : visit_of_key s.met (key_of_text t) ≡ None) (e : Error) where
+    abbrev FirstRefused : Type 0
+    FirstRefused = shared_refused str length key_of_text boxed_text_spelling t s None e
 
-  reads_by : (o : Option Visit) → visit_of_key s.met (text_key t) ≡ o → (fs : List Field) (b : limits.State) → Lies (text_plan t) own (laid s seen) fs b → SharedReads fs b
-  reads_by None new fs b (lies_first {start = start} {inner = inner} {fs = within} unmet h begins ends fields) =
-      let none = flat_lies start (laid s seen) inner within h in
-      let at_end : start ≡ s.pos = begins ∙ unaligned inner.pos ∙ ap (λ (z : limits.State). z.pos) none.1 in
-      first_reads fs b new unmet
-      (ends ∙ ap₂ (λ (n : ℕ) (z : limits.State). after_first t n z.met) at_end none.1)
-      (fields ∙ ap₂ (λ (l : List Field) (n : ℕ). l ++ position n ∷ (offset own (n + 0) ∷ (count (length t) ∷ []))) none.0 at_end ∙ ap (λ n. position s.pos ∷ (offset own n ∷ (count (length t) ∷ []))) (add-zero s.pos))
-  reads_by None new fs b (lies_later n met fields) = absurd (met_unmet str (string t) n seen (not_met t seen s.met alike new) met)
-  reads_by (Some v) met fs b (lies_first unmet h begins ends fields) = absurd (met_unmet str (string t) v.pos seen unmet (met_there t seen s.met v alike met))
-  reads_by (Some v) met fs b (lies_later n there fields) =
-      let same : n ≡ v.pos = one_met str (string t) n v.pos seen s.met alike there (met_there t seen s.met v alike met) in
-      later_reads fs b v met refl (fields ∙ ap (λ k. later_fields own k (length t)) (add-zero n ∙ same))
+    first_refused : FirstRefused → (2 ^ 32 ≤ s.pos) × (e ≡ PositionTooLarge)
+    first_refused (inl cyclic) = absurd (one_and_none (key_of_text t) s.begun cyclic.0 (no_text_begun g s.begun begun t))
+    first_refused (inr (inl high)) = high.1
+    first_refused (inr (inr finished)) = absurd (finished.0 new)
 
-  pub shared_reads : (p : Plan) (fs : List Field) (b : limits.State) → p ≡ text_plan t → Lies p own (laid s seen) fs b → SharedReads fs b
-  shared_reads p fs b p_is h = reads_by (visit_of_key s.met (text_key t)) refl fs b (subst (λ x. Lies x own (laid s seen) fs b) p_is h)
+    refused_first : (2 ^ 32 ≤ s.pos) × (e ≡ PositionTooLarge) → FirstRefused
+    refused_first high = inr (inl (no_text_begun g s.begun begun t, high))
 
-  -- and it lies
-  lies_by : (o : Option Visit) → visit_of_key s.met (text_key t) ≡ o → (fs : List Field) × (b : limits.State) × Lies (text_plan t) own (laid s seen) fs b
-  lies_by None new = (_, _, lies_first (not_met t seen s.met alike new) (lies_flat {own = align_up s.pos 1}) refl refl refl)
-  lies_by (Some v) met = (_, _, lies_later v.pos (met_there t seen s.met v alike met) refl)
+  module _ (t : List ℕ) (s : State) (seen : List Shared) (alike : Alike seen s.met) (begun : Begun g s.begun) (own : ℕ) where
+    abbrev SharedReads : List Field → limits.State → Type 0
+    SharedReads fs b = Reads shared_string_spelling t s own fs b
 
-  pub shared_lies : (p : Plan) → p ≡ text_plan t → (fs : List Field) × (b : limits.State) × Lies p own (laid s seen) fs b
-  shared_lies p p_is =
-      subst (λ x. (fs : List Field) × (b : limits.State) × Lies x own (laid s seen) fs b) (sym p_is) (lies_by (visit_of_key s.met (text_key t)) refl)
+    -- what is written of a text, by what was visited under its number
+    abbrev pieces_by : Option Visit → List ℕ
+    pieces_by o = shared_piece str length key_of_text boxed_text_spelling t s o
+
+    first_reads : (fs : List Field) (b : limits.State) → visit_of_key s.met (key_of_text t) ≡ None → IsUnmet str (string t) seen
+        → b ≡ after_first t s.pos seen → fs ≡ first_fields own s.pos (length t) → SharedReads fs b
+    first_reads fs b new unmet ends fields =
+        let w = boxed_text_spelling in
+        let here : Alike (shared_at (shared_string t) s.pos ∷ seen) (shared_met str length key_of_text w t s None) = (record { value = shared_string t; stands = g.texts t; is = refl }, unmet, alike) in
+        record {
+          alike = subst (λ o. Alike b.met (shared_met str length key_of_text w t s o)) (sym new)
+              (subst (λ (z : limits.State). Alike z.met (shared_met str length key_of_text w t s None)) (sym ends) here);
+          spares = λ k o e. subst (λ x. visit_of_key (shared_met str length key_of_text w t s x) k ≡ None) (sym new) (
+              elim (eqb_tells (key_of_text t) k) [
+                | inl is ↦ absurd (g.no_text k o t (sym is.1))
+                | inr apart ↦ ap (λ b. cond b (Some (first_visit str length key_of_text w t s)) (visit_of_key s.met k)) apart.0 ∙ e
+              ]);
+          there = ap (λ (z : limits.State). z.pos) ends ∙ padded_end s.pos (length t) t refl ∙ ap (λ o. s.pos + length (pieces_by o)) (sym new);
+          piece_past = λ e r. inl (subst (λ l. IsSomePast l e) (sym fields)
+              (inl (first_refused t s begun new e (subst (λ o. shared_refused str length key_of_text w t s o e) new r))));
+          own_past = λ e r. subst (λ l. IsSomePast l e) (sym fields)
+              (inr (later_past t own s.pos e (subst (λ o. w.own_refused t (shared_resolver str length key_of_text w t s o) own e) new r)));
+          refused = λ e r.
+              subst (λ o. shared_refused str length key_of_text w t s o e ⊎ w.own_refused t (shared_resolver str length key_of_text w t s o) own e) (sym new)
+              (⊎_elim (λ high. inl (refused_first t s begun new e high)) (λ p. inr (past_later t own s.pos e p)) (subst (λ l. IsSomePast l e) fields r));
+        }
+
+    later_reads : (fs : List Field) (b : limits.State) (v : Visit) → visit_of_key s.met (key_of_text t) ≡ Some v
+        → b ≡ laid s seen → fs ≡ later_fields own v.pos (length t) → SharedReads fs b
+    later_reads fs b v met ends fields =
+        let w = boxed_text_spelling in
+        record {
+          alike = subst (λ o. Alike b.met (shared_met str length key_of_text w t s o)) (sym met) (subst (λ (z : limits.State). Alike z.met s.met) (sym ends) alike);
+          spares = λ k o e. subst (λ x. visit_of_key (shared_met str length key_of_text w t s x) k ≡ None) (sym met) e;
+          there = ap (λ (z : limits.State). z.pos) ends ∙ sym (add-zero s.pos) ∙ ap (λ o. s.pos + length (pieces_by o)) (sym met);
+          piece_past = λ e r. absurd (subst (λ o. shared_refused str length key_of_text w t s o e) met r);
+          own_past = λ e r. subst (λ l. IsSomePast l e) (sym fields)
+              (later_past t own v.pos e (subst (λ o. w.own_refused t (shared_resolver str length key_of_text w t s o) own e) met r));
+          refused = λ e r.
+              subst (λ o. shared_refused str length key_of_text w t s o e ⊎ w.own_refused t (shared_resolver str length key_of_text w t s o) own e) (sym met)
+              (inr (past_later t own v.pos e (subst (λ l. IsSomePast l e) fields r)));
+        }
+
+    reads_by : (o : Option Visit) → visit_of_key s.met (key_of_text t) ≡ o → (fs : List Field) (b : limits.State) → Lies (text_plan t) own (laid s seen) fs b → SharedReads fs b
+    reads_by None new fs b (lies_first {start = start} {inner = inner} {fs = within} unmet h begins ends fields) =
+        let none = flat_lies start (laid s seen) inner within h in
+        let at_end : start ≡ s.pos = begins ∙ unaligned inner.pos ∙ ap (λ (z : limits.State). z.pos) none.1 in
+        first_reads fs b new unmet
+        (ends ∙ ap₂ (λ (n : ℕ) (z : limits.State). after_first t n z.met) at_end none.1)
+        (fields ∙ ap₂ (λ (l : List Field) (n : ℕ). l ++ position n ∷ (offset own (n + 0) ∷ (count (length t) ∷ []))) none.0 at_end ∙ ap (λ n. position s.pos ∷ (offset own n ∷ (count (length t) ∷ []))) (add-zero s.pos))
+    reads_by None new fs b (lies_later n met fields) = absurd (met_unmet str (string t) n seen (not_met g.keys g.apart (key_of_text t) (shared_string t) (g.texts t) seen s.met alike new) met)
+    reads_by (Some v) met fs b (lies_first unmet h begins ends fields) = absurd (met_unmet str (string t) v.pos seen unmet (met_there g.keys (key_of_text t) (shared_string t) (g.texts t) seen s.met v alike met))
+    reads_by (Some v) met fs b (lies_later n there fields) =
+        let same : n ≡ v.pos = one_met g.keys str (string t) n v.pos seen s.met alike there (met_there g.keys (key_of_text t) (shared_string t) (g.texts t) seen s.met v alike met) in
+        later_reads fs b v met refl (fields ∙ ap (λ k. later_fields own k (length t)) (add-zero n ∙ same))
+
+    pub shared_reads : (p : Plan) (fs : List Field) (b : limits.State) → p ≡ text_plan t → Lies p own (laid s seen) fs b → SharedReads fs b
+    shared_reads p fs b p_is h = reads_by (visit_of_key s.met (key_of_text t)) refl fs b (subst (λ x. Lies x own (laid s seen) fs b) p_is h)
+
+    -- and it lies
+    lies_by : (o : Option Visit) → visit_of_key s.met (key_of_text t) ≡ o → (fs : List Field) × (b : limits.State) × Lies (text_plan t) own (laid s seen) fs b
+    lies_by None new = (_, _, lies_first (not_met g.keys g.apart (key_of_text t) (shared_string t) (g.texts t) seen s.met alike new) (lies_flat {own = align_up s.pos 1}) refl refl refl)
+    lies_by (Some v) met = (_, _, lies_later v.pos (met_there g.keys (key_of_text t) (shared_string t) (g.texts t) seen s.met v alike met) refl)
+
+    pub shared_lies : (p : Plan) → p ≡ text_plan t → (fs : List Field) × (b : limits.State) × Lies p own (laid s seen) fs b
+    shared_lies p p_is =
+        subst (λ x. (fs : List Field) × (b : limits.State) × Lies x own (laid s seen) fs b) (sym p_is) (lies_by (visit_of_key s.met (key_of_text t)) refl)

@@ -4,23 +4,24 @@ use Rattle.std.specs.Prelude.{⊤}
 use Rattle.archive_forms_values.specs.ShapeLayout.Value.{Value, Values, count_values}
 use Rattle.archive_forms_values.specs.ShapeLayout.Value.Value.{natural, integer, boolean, string, group, chosen, counted}
 use Rattle.archive_forms_values.specs.ShapeLayout.Value.Values.{no_values, more_values}
-use Rattle.archive_forms_values.specs.ShapeLayout.Shape.Pointee.{str}
+use Rattle.archive_forms_values.specs.ShapeLayout.Shape.Pointee.{sized, str}
+use Rattle.archive_forms_values.specs.ShapeLayout.Shape.{Pointee}
 use Rattle.archive_forms_values.specs.ShapeLayout.Content.{Part, Label, content_of, made, members, weave, first_values, other_values}
 use Rattle.archive_forms_values.specs.ShapeLayout.Content.Label.{same, second, whole, tagged, woven, total}
 use Rattle.archive_forms_values.specs.ShapeLayout.Content.Content.{illegal, counting}
 use Rattle.cabinet_documents.specs.Denotes.{tagged_value}
 use Rattle.cabinet_documents.specs.Fitted.{IsFitted, AreFitted, ArePairsFitted, AreFirstFit}
-use Rattle.cabinet_documents.specs.Fitted.IsFitted.{leaf_is_fitted, nothing_is_fitted, some_is_fitted, list_is_fitted, ordered_is_fitted, hashed_is_fitted, kept_is_fitted}
+use Rattle.cabinet_documents.specs.Fitted.IsFitted.{leaf_is_fitted, nothing_is_fitted, some_is_fitted, list_is_fitted, ordered_is_fitted, hashed_is_fitted, kept_is_fitted, whole_is_fitted}
 use Rattle.cabinet_documents.specs.Fitted.AreFitted.{none_are_fitted, more_are_fitted}
 use Rattle.cabinet_documents.specs.Fitted.ArePairsFitted.{no_pairs_are_fitted, more_pairs_are_fitted}
-use Rattle.cabinet_documents.specs.Node.{node_names}
+use Rattle.cabinet_documents.specs.Node.{node_shape, node_names}
 use Rattle.cabinet_documents.specs.Walk.{Stop, Walks, WalkAll, parts_of, value_of}
 use Rattle.cabinet_documents.specs.Walk.Walks.{walks}
 use Rattle.cabinet_documents.specs.Walk.WalkAll.{walk_none, walk_more}
 use Rattle.cabinet_documents.proofs.CanonicalTables.{IsTableFirst, TableFirst}
 use Rattle.cabinet_documents.proofs.Heights.{Suited, AllSuited, suited_append, suited_split}
-use Rattle.cabinet_documents.proofs.Nodes.{NodeValue, truth_value, number_value, text_value, shared_value, none_value, some_value, list_value, ordered_value, hashed_value, kept_value, NodeValues, no_nodes, more_nodes, PairValues, no_pairs, more_pairs}
-use Rattle.cabinet_documents.proofs.Places.{Place, table_here, text_behind, Spot, part_of, parts_at, Pays, pays_truth, pays_number, pays_text, pays_shared, pays_option, pays_list, pays_ordered, pays_hashed, pays_kept, Follows, passes, pays, truth_is, number_is, text_is, behind_is, none_is, some_is, nodes_follow, empty_is, total_is, leaf_follows, inner_follows, no_child_is, entry_follows, no_items_is, items_follow, no_entries_is, entries_second, numbers_follow, entry_number_is, pairs_follow, pair_follows, Leads, leads_nowhere, leads_plain, leads_claimed, leads_counted, led}
+use Rattle.cabinet_documents.proofs.Nodes.{NodeValue, truth_value, number_value, text_value, shared_value, none_value, some_value, list_value, ordered_value, hashed_value, kept_value, whole_value, NodeValues, no_nodes, more_nodes, PairValues, no_pairs, more_pairs}
+use Rattle.cabinet_documents.proofs.Places.{Place, table_here, text_behind, node_behind, Spot, part_of, parts_at, Pays, pays_truth, pays_number, pays_text, pays_shared, pays_option, pays_list, pays_ordered, pays_hashed, pays_kept, pays_whole, Follows, passes, pays, truth_is, number_is, text_is, behind_is, none_is, some_is, nodes_follow, empty_is, total_is, leaf_follows, inner_follows, no_child_is, entry_follows, no_items_is, items_follow, no_entries_is, entries_second, numbers_follow, entry_number_is, pairs_follow, pair_follows, Leads, leads_nowhere, leads_plain, leads_claimed, leads_counted, leads_whole, led}
 use Rattle.cabinet_documents.proofs.Stops.{Each, each_front, each_flat, flat}
 
 -- ---- the values below the tag of hashed maps, which is 7
@@ -87,6 +88,7 @@ paid_fit v pays_list h = tt
 paid_fit v pays_ordered h = tt
 paid_fit v pays_hashed h = h
 paid_fit v pays_kept h = tt
+paid_fit v pays_whole h = tt
 
 total_is_same : (v : Value) (b : Bool) (w : Value) → cond b (Some v) None ≡ Some w → w ≡ v
 total_is_same v true w m = cc
@@ -167,10 +169,10 @@ module _ (bytes : List ℕ) where
   own_fit table_here pos v h = h
   own_fit k pos v h = tt
 
-  counted_fit : (t len : ℕ) {vs : Values} {v : Value} → AllFit (record { place = text_behind len; pos = t } ∷ []) vs → value_of (counting false t str len) vs ≡ Some v → Suited IsTagFit v
-  counted_fit t len {vs = vs} {v = v} fs m =
-      let o = one (text_behind len) t refl fs in
-      let n : value_of (counting false t str len) (more_values o.value no_values) ≡ Some v = subst (λ x. value_of (counting false t str len) x ≡ Some v) o.values_are m in
+  counted_fit : (j : Place) (t : ℕ) (q : Pointee) (len : ℕ) {vs : Values} {v : Value} → AllFit (record { place = j; pos = t } ∷ []) vs → value_of (counting false t q len) vs ≡ Some v → Suited IsTagFit v
+  counted_fit j t q len {vs = vs} {v = v} fs m =
+      let o = one j t refl fs in
+      let n : value_of (counting false t q len) (more_values o.value no_values) ≡ Some v = subst (λ x. value_of (counting false t q len) x ≡ Some v) o.values_are m in
       let is : v ≡ counted t o.value = cc in
       subst (Suited IsTagFit) (sym is) (o.fit).suited
 
@@ -188,7 +190,10 @@ module _ (bytes : List ℕ) where
       let c = ap (content_of node_names bytes) is ∙ f in made_fit k fs (on _ (ap parts_of c)) (subst (λ x. value_of x vs ≡ Some v) c m)
   case_fit k pos {v = v} {vs = vs} is m on (leads_counted {t = t} {len = len} f) =
       let c = ap (content_of node_names bytes) is ∙ f in
-      counted_fit t len (on (record { place = text_behind len; pos = t } ∷ []) (ap parts_of c)) (subst (λ x. value_of x vs ≡ Some v) c m)
+      counted_fit (text_behind len) t str len (on (record { place = text_behind len; pos = t } ∷ []) (ap parts_of c)) (subst (λ x. value_of x vs ≡ Some v) c m)
+  case_fit k pos {v = v} {vs = vs} is m on (leads_whole {t = t} f) =
+      let c = ap (content_of node_names bytes) is ∙ f in
+      counted_fit node_behind t (sized node_shape) 1 (on (record { place = node_behind; pos = t } ∷ []) (ap parts_of c)) (subst (λ x. value_of x vs ≡ Some v) c m)
 
   mutual
     walk_fit : {d : ℕ} {p : Part} {v : Value} {walk : List Stop} → Walks node_names bytes d p v walk → (k : Place) (pos : ℕ) → p ≡ part_of k pos → Each TableFirst walk → FitAt k v
@@ -224,6 +229,7 @@ module _ (bytes : List ℕ) where
     fitted (list_value {vs = vs} e ns small) h = let k : ⊤ × (AllSuited IsTagFit vs × ⊤) = subst (Suited IsTagFit) e h in list_is_fitted e (all_fitted ns k.1.0)
     fitted (ordered_value {vs = vs} e ps small) h = let k : ⊤ × (AllSuited IsTagFit vs × ⊤) = subst (Suited IsTagFit) e h in ordered_is_fitted e (pairs_fitted ps k.1.0)
     fitted (hashed_value {vs = vs} e ps small) h = let k : AreFirstFit vs × (AllSuited IsTagFit vs × ⊤) = subst (Suited IsTagFit) e h in hashed_is_fitted e k.0 (pairs_fitted ps k.1.0)
+    fitted (whole_value {w = w} e n) h = let k : ⊤ × (Suited IsTagFit w × ⊤) = subst (Suited IsTagFit) e h in whole_is_fitted e (fitted n k.1.0)
     fitted (kept_value {vs = vs} e ps small) h = let k : ⊤ × (AllSuited IsTagFit vs × ⊤) = subst (Suited IsTagFit) e h in kept_is_fitted e (pairs_fitted ps k.1.0)
 
     all_fitted : {vs : Values} → NodeValues bytes vs → AllSuited IsTagFit vs → AreFitted vs

@@ -16,8 +16,8 @@ use Rattle.cabinet_documents.specs.Table.{item_keys}
 use Rattle.cabinet_documents.proofs.Denoted.{one_tree}
 use Rattle.cabinet_documents.proofs.Arranged.{arranged_depth}
 use Rattle.cabinet_documents.proofs.ByKey.{AreKeysDistinct}
-use Rattle.cabinet_documents.proofs.Changing.{of_some, of_list, of_ordered, of_hashed, of_kept}
-use Rattle.cabinet_documents.proofs.Nodes.{NodeValue, truth_value, number_value, text_value, shared_value, none_value, some_value, list_value, ordered_value, hashed_value, kept_value, NodeValues, no_nodes, more_nodes, PairValues, no_pairs, more_pairs}
+use Rattle.cabinet_documents.proofs.Changing.{of_some, of_list, of_ordered, of_hashed, of_kept, of_whole}
+use Rattle.cabinet_documents.proofs.Nodes.{NodeValue, truth_value, number_value, text_value, shared_value, none_value, some_value, list_value, ordered_value, hashed_value, kept_value, whole_value, NodeValues, no_nodes, more_nodes, PairValues, no_pairs, more_pairs}
 use Rattle.cabinet_documents.proofs.Places.{lifts}
 
 -- ---- how many containers lie in one another
@@ -53,6 +53,7 @@ mutual
       let a = arranged_depth s.pairs in
       ap height e ∙ omega (arith, r, a) ∙ sym (ap depth s.is)
   height_of (kept_value e ps small) d q = let s = of_kept (sym q ∙ e) d in let r = heights_of_pairs ps s.denotes refl in ap height e ∙ omega (arith, r) ∙ sym (ap depth s.is)
+  height_of (whole_value e n) d q = let s = of_whole (sym q ∙ e) d in let r = height_of n s.denotes refl in ap height e ∙ omega (arith, r) ∙ sym (ap depth s.is)
 
   heights_of : {bytes : List ℕ} {vs ws : Values} {ts : Trees} → NodeValues bytes vs → DenoteAll ws ts → vs ≡ ws → heights vs ≡ most_depth ts
   heights_of (no_nodes e) (denote_none f g) q = ap heights e ∙ sym (ap most_depth g)

@@ -31,12 +31,12 @@ use Rattle.cabinet_documents.proofs.Tables.{hashed_table, kept_table, numbers_at
 use Rattle.cabinet_documents.proofs.Walkable.{IsDirect}
 
 abbrev mutual
-  -- each table in place is sound; none lies behind a counted pointer
+  -- each table is sound where it is first visited
   pub TablesSound : {names : Names} {bytes : List ℕ} {level : ℕ} {inside : List OpenShared} {p : Part} {v : Value} {regions : List Region} {before after : List Visit}
       → Holds names bytes level inside p v regions before after → Type 0
   TablesSound {bytes = bytes} {p = p} {v = v} (holds_plain e legal all m) = IsTableSound bytes p v × AreTablesSound all
   TablesSound (holds_claimed e legal all m r) = AreTablesSound all
-  TablesSound (holds_first e a b h d g) = ⊤
+  TablesSound (holds_first e a b h d g) = TablesSound h
   TablesSound (holds_later e a b d g h) = ⊤
   TablesSound (holds_back e a d g h) = ⊤
 
@@ -47,17 +47,23 @@ abbrev mutual
 
 -- ---- by a part's content
 
--- what claims bytes is no table
-pub claimed_sound : (names : Names) (bytes : List ℕ) (p : Part) (v : Value) {s : Span} {l : Label} {ps : List Part} → content_of names bytes p ≡ claimed s l ps → IsTableSound bytes p v
-claimed_sound names bytes p v e = by_case (table_case p)
+-- what claims bytes is no table, nor is a counted pointer
+no_table_sound : (names : Names) (bytes : List ℕ) (p : Part) (v : Value) → (IsDirect (content_of names bytes p) → ⊥) → IsTableSound bytes p v
+no_table_sound names bytes p v indirect = by_case (table_case p)
   where
     not_direct : {q : Part} → p ≡ q → IsDirect (content_of names bytes q) → IsTableSound bytes p v
-    not_direct f d = absurd (subst IsDirect (ap (content_of names bytes) (sym f) ∙ e) d)
+    not_direct f d = absurd (indirect (subst (λ q. IsDirect (content_of names bytes q)) (sym f) d))
 
     by_case : TableCase p → IsTableSound bytes p v
     by_case (is_none t same_sound) = t bytes v
     by_case (is_table pos r f) = not_direct f (table_direct bytes names pos r)
     by_case (is_index pos k r f) = not_direct f (index_direct bytes names pos k r)
+
+pub claimed_sound : (names : Names) (bytes : List ℕ) (p : Part) (v : Value) {s : Span} {l : Label} {ps : List Part} → content_of names bytes p ≡ claimed s l ps → IsTableSound bytes p v
+claimed_sound names bytes p v e = no_table_sound names bytes p v (λ d. subst IsDirect e d)
+
+pub counted_sound : (names : Names) (bytes : List ℕ) (p : Part) (v : Value) {cyclic : Bool} {t len : ℕ} {q : Pointee} → content_of names bytes p ≡ counting cyclic t q len → IsTableSound bytes p v
+counted_sound names bytes p v e = no_table_sound names bytes p v (λ d. subst IsDirect e d)
 
 module _ (names : Names) (bytes : List ℕ) where
   pub record PlainTables (level : ℕ) (inside : List OpenShared) (p : Part) (l : Label) (ps : List Part) (v : Value) (rs : List Region) (before after : List Visit) : Type 0 where
@@ -251,7 +257,8 @@ module _ (bytes others : List ℕ) (names : Names) where
         record { holds = holds_claimed alike legal d.all m r; sound = d.sound; seen_bytes = span_seen bytes others names p e alike here }
     framed own regions (holds_first {p = p} {cyclic = cyclic} {t = t} {q = q} {len = len} e a b h x g) n =
         let alike = stable_counting p cyclic t q len own e in
-        record { holds = holds_first alike a b (frame bytes others names tt regions h) x g; sound = tt; seen_bytes = counting_seen bytes others names p e }
+        let d = framed tt regions h n in
+        record { holds = holds_first alike a b d.holds x g; sound = d.sound; seen_bytes = counting_seen bytes others names p e }
     framed own regions (holds_later {p = p} {cyclic = cyclic} {t = t} {q = q} {len = len} e a b x r g) n =
         record { holds = holds_later (stable_counting p cyclic t q len own e) a b x r g; sound = tt; seen_bytes = counting_seen bytes others names p e }
     framed own regions (holds_back {p = p} {t = t} {q = q} {len = len} e a x r g) n =

@@ -16,18 +16,17 @@ use Rattle.archive_forms_values.proofs.FormsLaws.Regions.{region_end}
 use Rattle.archive_forms_values.specs.ShapeCanonical.Sharing.{erased}
 use Rattle.archive_forms_values.proofs.FormsLaws.Written.{is_written, written_once_law}
 use Rattle.cabinet_text_grammar.specs.Tree.{Tree}
+use Rattle.cabinet_text_grammar.specs.Wholes.{wholes_of}
+use Rattle.cabinet_text_grammar.proofs.Tables.{document_table, document_numbered}
 use Rattle.cabinet_documents.specs.Node.{KnowsNode, node_shape, node_names}
 use Rattle.cabinet_documents.proofs.CanonicalNodes.{canonical_tables, canonical_fitted}
 use Rattle.cabinet_documents.proofs.Standing.{sound_walk}
 use Rattle.cabinet_documents.specs.Spelling.{node_spelling}
 use Rattle.cabinet_documents.specs.SpellingLaws.{WrittenIsImage, OneImage}
 use Rattle.cabinet_documents.proofs.Levels.{node_spells_law}
-use Rattle.cabinet_documents.proofs.Values.{value_of, text_keys, text_keys_differ, node_agrees, one_value_law}
+use Rattle.cabinet_documents.proofs.Values.{value_of, keys_of, node_agrees, one_value_law}
+use Rattle.cabinet_documents.proofs.KeysApart.{keys_apart}
 use Rattle.cabinet_documents.proofs.SpellingDenoted.{denoted}
-use Rattle.cabinet_documents.proofs.HeldNodes.{none_seen, held}
-use Rattle.cabinet_documents.proofs.NoWholes.{value_has_no_wholes}
-use Rattle.cabinet_documents.proofs.Opening.{of_tree}
-use Rattle.cabinet_documents.proofs.Places.{node_behind}
 
 -- ---- where regions begin
 
@@ -71,12 +70,13 @@ root_begins bytes pos high (holds_back e x f g h) is a = absurd (let f = ap (con
 -- ---- the whole
 
 -- the root is where it was written
-root_low : (t : Tree) (bytes : List ℕ) → region_fits node_spelling node_shape (t ∷ []) initial
-    → bytes ≡ region_piece node_spelling node_shape (t ∷ []) initial → root_position (length bytes) node_shape < 2 ^ 32
+root_low : (t : Tree) (bytes : List ℕ) → region_fits (node_spelling (wholes_of t)) node_shape (t ∷ []) initial
+    → bytes ≡ region_piece (node_spelling (wholes_of t)) node_shape (t ∷ []) initial → root_position (length bytes) node_shape < 2 ^ 32
 unfolding root_position
 root_low t bytes f e =
     let fit = first_fit text_hash in
-    let end = region_end fit node_shape KnowsNode node_spelling (t ∷ []) (node_spells_law fit t, tt) initial f in
+    let table = wholes_of t in
+    let end = region_end fit node_shape KnowsNode (node_spelling table) (t ∷ []) (node_spells_law table fit t, tt) initial f in
     let same = ap length e in
     let start = f.1 in
     omega (arith, end, same, start)
@@ -84,15 +84,18 @@ root_low t bytes f e =
 pub written_is_image_law : WrittenIsImage
 written_is_image_law t bytes document f e =
     let fit = first_fit text_hash in
-    let agrees = node_agrees t in
-    let written = is_written fit node_shape KnowsNode node_spelling t node_names text_keys bytes (node_spells_law fit) refl (agrees.suits document.0) text_keys_differ f e in
+    let table = wholes_of t in
+    let is = document_table t document in
+    let agrees = node_agrees table is t in
+    let written =
+    is_written fit node_shape KnowsNode (node_spelling table) t node_names (keys_of table) bytes (node_spells_law table fit) refl
+    (agrees.suits document.0 (document_numbered t)) (keys_apart table is) f e in
     let archive = written.archive in
-    let v = node_spelling.value t initial in
+    let v = (node_spelling table).value t initial in
     let root = archive.canonical.root in
     let pos = root_position (length bytes) node_shape in
     let same : erased v ≡ value_of t = written.plain ∙ agrees.plain in
-    let some = of_tree (held bytes root.holds node_behind pos refl (none_seen bytes)).value in
-    let denotes = denoted t v document.0 (value_has_no_wholes t v some.tree document.0 some.denotes same) same in
+    let denotes = denoted t v document.0 same in
     let tables = canonical_tables bytes v archive.regions archive.visits archive.canonical t denotes document in
     let walk = sound_walk bytes t v archive.regions archive.visits root denotes document tables in
     let low = root_low t bytes f e in

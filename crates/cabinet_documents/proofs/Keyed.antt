@@ -12,9 +12,9 @@ use Rattle.cabinet_documents.specs.Order.{ascend, is_below, arranged}
 use Rattle.cabinet_documents.specs.Table.{item_keys}
 use Rattle.cabinet_documents.proofs.Arranged.{is_less}
 use Rattle.cabinet_documents.proofs.ByKey.{AreKeysDistinct, pair_keys, AreDistinct, keys_distinct, distinct, distinct_in_order}
-use Rattle.cabinet_documents.proofs.Changing.{of_some, of_list, of_ordered, of_hashed, of_kept}
+use Rattle.cabinet_documents.proofs.Changing.{of_some, of_list, of_ordered, of_hashed, of_kept, of_whole}
 use Rattle.cabinet_documents.proofs.Heights.{Keyed, AllKeyed}
-use Rattle.cabinet_documents.proofs.Nodes.{NodeValue, truth_value, number_value, text_value, shared_value, none_value, some_value, list_value, ordered_value, hashed_value, kept_value, NodeValues, no_nodes, more_nodes, PairValues, no_pairs, more_pairs}
+use Rattle.cabinet_documents.proofs.Nodes.{NodeValue, truth_value, number_value, text_value, shared_value, none_value, some_value, list_value, ordered_value, hashed_value, kept_value, whole_value, NodeValues, no_nodes, more_nodes, PairValues, no_pairs, more_pairs}
 
 -- ---- keys after others, of which the last comes first
 
@@ -72,6 +72,7 @@ mutual
       let each = distinct_in_order hashed s.pairs (distinct hashed [] (arranged s.pairs) a.0) in
       let keys = subst AreKeysDistinct (sym (keys_denoted s.denotes)) (keys_distinct s.pairs each) in
       subst Keyed (sym e) (keys, (pairs_keyed_of ps s.denotes refl each, tt))
+  keyed_of (whole_value e n) d q l = let s = of_whole (sym q ∙ e) d in subst Keyed (sym e) (tt, (keyed_of n s.denotes refl (subst IsLegal s.is l), tt))
   keyed_of (kept_value e ps small) d q l =
       let s = of_kept (sym q ∙ e) d in
       let a = subst IsLegal s.is l in

@@ -7,19 +7,19 @@ use Rattle.archive_forms_values.specs.ShapeLayout.Value.Value.{string, group, ch
 use Rattle.archive_forms_values.specs.ShapeLayout.Value.Values.{no_values}
 use Rattle.archive_forms_values.specs.ShapeLayout.Path.{value_in}
 use Rattle.cabinet_text_grammar.specs.Keys.{ordered, hashed, kept}
-use Rattle.cabinet_text_grammar.specs.Tree.{Leaf, truth, number, text, Tree, Trees, Pairs, leaf, shared, nothing, just, list, map, no_trees, IsLegal, AreLegal}
+use Rattle.cabinet_text_grammar.specs.Tree.{Leaf, truth, number, text, Tree, Trees, Pairs, leaf, shared, nothing, just, list, map, whole, no_trees, IsLegal, AreLegal}
 use Rattle.cabinet_text_grammar.specs.Tree as document
-use Rattle.cabinet_text_grammar.specs.Path.{Step, node_at, node_in, node_by}
+use Rattle.cabinet_text_grammar.specs.Path.{Step, node_at, node_in, node_by, enters, enters_in, enters_by}
 use Rattle.cabinet_documents.specs.Denotes.{Denotes, DenoteAll, DenotePairs, tagged_value, pair_value}
-use Rattle.cabinet_documents.specs.Denotes.Denotes.{denotes_truth, denotes_number, denotes_text, denotes_shared, denotes_nothing, denotes_some, denotes_list, denotes_ordered, denotes_hashed, denotes_kept}
+use Rattle.cabinet_documents.specs.Denotes.Denotes.{denotes_truth, denotes_number, denotes_text, denotes_shared, denotes_nothing, denotes_some, denotes_list, denotes_ordered, denotes_hashed, denotes_kept, denotes_whole}
 use Rattle.cabinet_documents.specs.Denotes.DenoteAll.{denote_none, denote_more}
 use Rattle.cabinet_documents.specs.Denotes.DenotePairs.{denote_no_pairs, denote_pair}
 use Rattle.cabinet_documents.specs.Order.{arranged}
 use Rattle.cabinet_documents.specs.Laws.{payload_of}
-use Rattle.cabinet_documents.proofs.ByKey.{node_here, node_past, AreDistinct}
-use Rattle.cabinet_documents.proofs.Changing.{of_some, of_list, of_ordered, of_hashed, of_kept}
+use Rattle.cabinet_documents.proofs.ByKey.{node_here, node_past, AreDistinct, enters_here, enters_past}
+use Rattle.cabinet_documents.proofs.Changing.{of_some, of_list, of_ordered, of_hashed, of_kept, of_whole}
 use Rattle.cabinet_documents.proofs.Denoted.{one_tree}
-use Rattle.cabinet_documents.proofs.Nodes.{NodeValue, truth_value, number_value, text_value, shared_value, none_value, some_value, list_value, ordered_value, hashed_value, kept_value, NodeValues, no_nodes, more_nodes, PairValues, no_pairs, more_pairs}
+use Rattle.cabinet_documents.proofs.Nodes.{NodeValue, truth_value, number_value, text_value, shared_value, none_value, some_value, list_value, ordered_value, hashed_value, kept_value, whole_value, NodeValues, no_nodes, more_nodes, PairValues, no_pairs, more_pairs}
 
 abbrev pub leaf_tag : Leaf → ℕ
 leaf_tag (truth b) = 0
@@ -38,6 +38,7 @@ pub data Known (bytes : List ℕ) (v : Value) (t : Tree) : Type 0 where
   known_ordered : {vs : Values} {ps : Pairs} → v ≡ tagged_value 6 (group vs) → t ≡ map ordered ps → PairValues bytes vs → DenotePairs vs ps → Known bytes v t
   known_hashed : {vs : Values} {ps : Pairs} → v ≡ tagged_value 7 (group vs) → t ≡ map hashed (arranged ps) → PairValues bytes vs → DenotePairs vs ps → Known bytes v t
   known_kept : {vs : Values} {ps : Pairs} → v ≡ tagged_value 8 (group vs) → t ≡ map kept ps → PairValues bytes vs → DenotePairs vs ps → Known bytes v t
+  known_whole : {pos : ℕ} {w : Value} {u : Tree} → v ≡ tagged_value 9 (counted pos w) → t ≡ whole u → NodeValue bytes w → Denotes w u → Known bytes v t
 
 pub known : {bytes : List ℕ} {v : Value} {t : Tree} → NodeValue bytes v → Denotes v t → Known bytes v t
 known (truth_value {b = b} e) d = known_leaf (truth b) e (one_tree d (denotes_truth e refl))
@@ -50,6 +51,7 @@ known (list_value e ns small) d = let s = of_list e d in known_list e s.is ns s.
 known (ordered_value e ps small) d = let s = of_ordered e d in known_ordered e s.is ps s.denotes
 known (hashed_value e ps small) d = let s = of_hashed e d in known_hashed e s.is ps s.denotes
 known (kept_value e ps small) d = let s = of_kept e d in known_kept e s.is ps s.denotes
+known (whole_value e n) d = let s = of_whole e d in known_whole e s.is n s.denotes
 
 -- the value of a leaf
 pub leaf_value : {v : Value} {t : Tree} → Denotes v t → (l : Leaf) → t ≡ leaf l → LeafValue v l
@@ -63,6 +65,7 @@ leaf_value (denotes_list e f k) l g = absurd (cc)
 leaf_value (denotes_ordered e f k) l g = absurd (cc)
 leaf_value (denotes_hashed e f k) l g = absurd (cc)
 leaf_value (denotes_kept e f k) l g = absurd (cc)
+leaf_value (denotes_whole e f k) l g = absurd (cc)
 
 -- ---- element i
 
@@ -74,11 +77,12 @@ pub record KnownElement (bytes : List ℕ) (vs : Values) (i : ℕ) (path : List 
   pub denotes : Denotes value tree
   pub legal : IsLegal tree
   pub found : node_at tree path ≡ Some t
+  pub outside : enters tree path ≡ false
 
-pub known_element : {bytes : List ℕ} {vs : Values} {ts : Trees} (i : ℕ) (path : List Step) (t : Tree) → NodeValues bytes vs → DenoteAll vs ts → AreLegal ts → node_in ts i path ≡ Some t → KnownElement bytes vs i path t
-known_element i path t ns (denote_none e f) l g = let h : node_in no_trees i path ≡ Some t = subst (λ x. node_in x i path ≡ Some t) f g in absurd (cc)
-known_element i path t (no_nodes n) (denote_more e f d ds) l g = absurd (cc)
-known_element {bytes = bytes} zero path t (more_nodes {v = v'} n h hs) (denote_more {v = v} {t = u} {ts = us} e f d ds) l g =
+pub known_element : {bytes : List ℕ} {vs : Values} {ts : Trees} (i : ℕ) (path : List Step) (t : Tree) → NodeValues bytes vs → DenoteAll vs ts → AreLegal ts → node_in ts i path ≡ Some t → enters_in ts i path ≡ false → KnownElement bytes vs i path t
+known_element i path t ns (denote_none e f) l g o = let h : node_in no_trees i path ≡ Some t = subst (λ x. node_in x i path ≡ Some t) f g in absurd (cc)
+known_element i path t (no_nodes n) (denote_more e f d ds) l g o = absurd (cc)
+known_element {bytes = bytes} zero path t (more_nodes {v = v'} n h hs) (denote_more {v = v} {t = u} {ts = us} e f d ds) l g o =
     let same : v' ≡ v = cc in
     record {
       value = v;
@@ -88,11 +92,12 @@ known_element {bytes = bytes} zero path t (more_nodes {v = v'} n h hs) (denote_m
       denotes = d;
       legal = (subst AreLegal f l).0;
       found = subst (λ x. node_in x 0 path ≡ Some t) f g;
+      outside = subst (λ x. enters_in x 0 path ≡ false) f o;
     }
-known_element {bytes = bytes} (suc i) path t (more_nodes {ws = ws'} n h hs) (denote_more {vs = ws} e f d ds) l g =
+known_element {bytes = bytes} (suc i) path t (more_nodes {ws = ws'} n h hs) (denote_more {vs = ws} e f d ds) l g o =
     let same : ws' ≡ ws = cc in
-    let k = known_element i path t (subst (NodeValues bytes) same hs) ds (subst AreLegal f l).1 (subst (λ x. node_in x (suc i) path ≡ Some t) f g) in
-    record { value = k.value; tree = k.tree; there = ap (value_in (suc i)) e ∙ k.there; node = k.node; denotes = k.denotes; legal = k.legal; found = k.found }
+    let k = known_element i path t (subst (NodeValues bytes) same hs) ds (subst AreLegal f l).1 (subst (λ x. node_in x (suc i) path ≡ Some t) f g) (subst (λ x. enters_in x (suc i) path ≡ false) f o) in
+    record { value = k.value; tree = k.tree; there = ap (value_in (suc i)) e ∙ k.there; node = k.node; denotes = k.denotes; legal = k.legal; found = k.found; outside = k.outside }
 
 -- ---- the pair with a key
 
@@ -107,20 +112,24 @@ pub record KnownPair (bytes : List ℕ) (vs : Values) (k : List ℕ) (path : Lis
   pub denotes : Denotes value tree
   pub legal : IsLegal tree
   pub found : node_at tree path ≡ Some t
+  pub outside : enters tree path ≡ false
 
-pub known_pair : {bytes : List ℕ} {vs : Values} {ps : Pairs} (k : List ℕ) (path : List Step) (t : Tree) → PairValues bytes vs → DenotePairs vs ps → AreDistinct ps → node_by ps k path ≡ Some t → KnownPair bytes vs k path t
-known_pair k path t ns (denote_no_pairs e f) each g = let h : node_by document.no_pairs k path ≡ Some t = ap (λ x. node_by x k path) (sym f) ∙ g in absurd (cc)
-known_pair k path t (no_pairs n) (denote_pair e f d ds) each g = absurd (cc)
-known_pair {bytes = bytes} {vs = vs} k path t (more_pairs {ws = ws'} {k = l'} {v = v'} n utf8 h hs) (denote_pair {k = l} {v = v} {vs = ws} {t = u} {ps = us} e f d ds) each g =
-    by_case (bytes_eq l k) refl (λ there. known_pair k path t (subst (PairValues bytes) (cc) hs) ds others.2 there)
+pub known_pair : {bytes : List ℕ} {vs : Values} {ps : Pairs} (k : List ℕ) (path : List Step) (t : Tree) → PairValues bytes vs → DenotePairs vs ps → AreDistinct ps → node_by ps k path ≡ Some t → enters_by ps k path ≡ false → KnownPair bytes vs k path t
+known_pair k path t ns (denote_no_pairs e f) each g o = let h : node_by document.no_pairs k path ≡ Some t = ap (λ x. node_by x k path) (sym f) ∙ g in absurd (cc)
+known_pair k path t (no_pairs n) (denote_pair e f d ds) each g o = absurd (cc)
+known_pair {bytes = bytes} {vs = vs} k path t (more_pairs {ws = ws'} {k = l'} {v = v'} n utf8 h hs) (denote_pair {k = l} {v = v} {vs = ws} {t = u} {ps = us} e f d ds) each g o =
+    by_case (bytes_eq l k) refl (λ there free. known_pair k path t (subst (PairValues bytes) (cc) hs) ds others.2 there free)
   where
     all : node_by (document.more_pairs l u us) k path ≡ Some t
     all = ap (λ x. node_by x k path) (sym f) ∙ g
 
+    free : enters_by (document.more_pairs l u us) k path ≡ false
+    free = ap (λ x. enters_by x k path) (sym f) ∙ o
+
     others : AreDistinct (document.more_pairs l u us)
     others = subst AreDistinct f each
 
-    by_case : (b : Bool) → bytes_eq l k ≡ b → (node_by us k path ≡ Some t → KnownPair bytes ws k path t) → KnownPair bytes vs k path t
+    by_case : (b : Bool) → bytes_eq l k ≡ b → (node_by us k path ≡ Some t → enters_by us k path ≡ false → KnownPair bytes ws k path t) → KnownPair bytes vs k path t
     by_case true keys on =
         let same : v' ≡ v = cc in
         record {
@@ -133,9 +142,10 @@ known_pair {bytes = bytes} {vs = vs} k path t (more_pairs {ws = ws'} {k = l'} {v
           denotes = d;
           legal = others.1;
           found = sym (node_here l u us k path keys) ∙ all;
+          outside = sym (enters_here l u us k path keys) ∙ free;
         }
     by_case false keys on =
-        let r = on (sym (node_past l u us k path keys) ∙ all) in
+        let r = on (sym (node_past l u us k path keys) ∙ all) (sym (enters_past l u us k path keys) ∙ free) in
         record {
           number = suc r.number;
           value = r.value;
@@ -146,6 +156,7 @@ known_pair {bytes = bytes} {vs = vs} k path t (more_pairs {ws = ws'} {k = l'} {v
           denotes = r.denotes;
           legal = r.legal;
           found = r.found;
+          outside = r.outside;
         }
       where
         past : (n : ℕ) → ((i : ℕ) (other : Value) → i < n → value_in i ws ≡ Some (pair_value k other) → ⊥) → (i : ℕ) (other : Value) → i < suc n → value_in i vs ≡ Some (pair_value k other) → ⊥

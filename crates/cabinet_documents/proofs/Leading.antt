@@ -13,7 +13,7 @@ use Rattle.cabinet_text_grammar.specs.Tree.{Leaf, truth, number, text}
 use Rattle.cabinet_text_grammar.specs.Path.{Step}
 use Rattle.cabinet_documents.specs.Denotes.{tagged_value, pair_value}
 use Rattle.cabinet_documents.specs.OwnBytes.{LeadsTo, leads_here, leads_inside, leads_place, leads_key}
-use Rattle.cabinet_documents.proofs.Places.{Place, node_here, payload_here, truth_here, number_here, text_here, shared_here, option_here, box_here, list_here, ordered_here, table_here, index_here, pair_here, tree_node, tree_child, entry_here, buckets_here, numbers_here, entry_number, node_behind, nodes_behind, pairs_behind, text_behind, Spot, each_from, entries_from, children_from, tagged_from}
+use Rattle.cabinet_documents.proofs.Places.{Place, node_here, payload_here, truth_here, number_here, text_here, shared_here, option_here, box_here, list_here, ordered_here, table_here, index_here, whole_here, pair_here, tree_node, tree_child, entry_here, buckets_here, numbers_here, entry_number, node_behind, nodes_behind, pairs_behind, text_behind, Spot, each_from, entries_from, children_from, tagged_from}
 use Rattle.cabinet_documents.proofs.Known.{leaf_tag, LeafValue}
 use Rattle.cabinet_documents.proofs.Steps.{place_of}
 
@@ -71,6 +71,8 @@ Aims list_here v path = ToItem v path
 Aims ordered_here v path = ToPair v path
 Aims table_here v path = ToPair v path
 Aims index_here v path = ToPair v path
+-- no path leads into a whole
+Aims whole_here v path = ⊥
 Aims pair_here v path = FromPair v path
 Aims (tree_node level) v path = ToPair v path
 Aims (tree_child level) v path = ToPair v path

@@ -1,5 +1,5 @@
 -- Each leaf of an accepted document has own bytes.
-use Rattle.std.proofs.Common.{◌≡◌, ℕ, suc, List, [], ◌∷◌, ◌++◌, length, Some, refl, sym, ap, subst, ◌∙◌, ◌⊎◌}
+use Rattle.std.proofs.Common.{◌≡◌, ℕ, suc, List, [], ◌∷◌, ◌++◌, length, Some, refl, sym, ap, subst, ◌∙◌, ◌⊎◌, false}
 use Rattle.archive_forms_values.specs.ShapeLayout.Bytes.{window}
 use Rattle.archive_forms_values.specs.ShapeLayout.Shape.Pointee.{sized, str}
 use Rattle.archive_forms_values.specs.ShapeLayout.Value.{Value, Values}
@@ -15,21 +15,21 @@ use Rattle.archive_forms_values.proofs.ShapeLayout.Leaves.{leaf_within_law}
 use Rattle.archive_forms_values.proofs.ArchiveShape.Pieces.{length-window}
 use Rattle.cabinet_text_grammar.specs.Keys.{MapKind, ordered, hashed, kept}
 use Rattle.cabinet_text_grammar.specs.Tree.{Leaf, truth, number, text, Tree, Pairs, leaf, map, IsLegal}
-use Rattle.cabinet_text_grammar.specs.Path.{Step, key, place, inside, node_at}
+use Rattle.cabinet_text_grammar.specs.Path.{Step, key, place, inside, node_at, enters}
 use Rattle.cabinet_documents.specs.Node.{node_names, node_shape, own_bytes}
 use Rattle.cabinet_documents.specs.Denotes.{Denotes, DenotePairs, tagged_value, pair_value}
 use Rattle.cabinet_documents.specs.OwnBytes.{LeadsTo, leads_here, leads_inside, leads_place, leads_key, IsOwn, own_truth, own_number, own_inline, own_behind}
 use Rattle.cabinet_documents.specs.Laws.{payload_of, OwnBytesStand, LeavesStand}
-use Rattle.cabinet_documents.proofs.ByKey.{in_order, distinct, distinct_in_order, node_in_order}
+use Rattle.cabinet_documents.proofs.ByKey.{in_order, distinct, distinct_in_order, node_in_order, enters_in_order}
 use Rattle.cabinet_documents.proofs.Changing.{kind_tag, is_high}
 use Rattle.cabinet_documents.proofs.PairSteps.{NodeOf}
 use Rattle.cabinet_documents.proofs.IndexSteps.{index_node}
 use Rattle.cabinet_documents.proofs.TableSteps.{table_node}
-use Rattle.cabinet_documents.proofs.Places.{Place, node_here, text_here, list_here, node_behind, text_behind, part_of, Pays, pays_truth, pays_number, pays_text, pays_shared, pays_option, pays_list, pays_ordered, pays_hashed, pays_kept}
+use Rattle.cabinet_documents.proofs.Places.{Place, node_here, text_here, list_here, node_behind, text_behind, part_of, Pays, pays_truth, pays_number, pays_text, pays_shared, pays_option, pays_list, pays_ordered, pays_hashed, pays_kept, pays_whole}
 use Rattle.cabinet_documents.proofs.Nodes.{NodeValue, PairValues}
 use Rattle.cabinet_documents.proofs.HeldNodes.{none_seen, held}
 use Rattle.cabinet_documents.proofs.Steps.{place_of, node_cases, behind_below, some_cases, ElementCase, element_cases, TextCase, text_inline, text_out, text_cases}
-use Rattle.cabinet_documents.proofs.Known.{leaf_tag, LeafValue, Known, known_leaf, known_shared, known_none, known_some, known_list, known_ordered, known_hashed, known_kept, known, known_element, known_pair}
+use Rattle.cabinet_documents.proofs.Known.{leaf_tag, LeafValue, Known, known_leaf, known_shared, known_none, known_some, known_list, known_ordered, known_hashed, known_kept, known_whole, known, known_element, known_pair}
 use Rattle.cabinet_documents.proofs.Leading.{ToLeaf}
 use Rattle.cabinet_documents.proofs.Avoiding.{avoids}
 
@@ -52,6 +52,7 @@ module _ (bytes : List ℕ) where
   place_is pays_ordered = refl
   place_is pays_hashed = refl
   place_is pays_kept = refl
+  place_is pays_whole = refl
 
   pub paid_at : (pos tag : ℕ) (w : Value) {level : ℕ} {around : List OpenShared} {v : Value} {regions : List Region} {before after : List Visit}
       → v ≡ tagged_value tag w → Holds node_names bytes level around (part_of node_here pos) v regions before after → PaidAt level around pos v w (place_of tag) before after
@@ -171,7 +172,7 @@ module _ (bytes : List ℕ) where
   abbrev On : List Step → Leaf → Type 0
   On rest l =
       (pos level : ℕ) (around : List OpenShared) (v : Value) (regions : List Region) (before after : List Visit) (t : Tree)
-      → NodeValue bytes v → Denotes v t → IsLegal t → Holds node_names bytes level around (part_of node_here pos) v regions before after → node_at t rest ≡ Some (leaf l) → LeafStands level around before pos v rest l
+      → NodeValue bytes v → Denotes v t → IsLegal t → Holds node_names bytes level around (part_of node_here pos) v regions before after → node_at t rest ≡ Some (leaf l) → enters t rest ≡ false → LeafStands level around before pos v rest l
 
   module _ (l : Leaf) {level pos : ℕ} {around : List OpenShared} {v : Value} {regions : List Region} {before after : List Visit} {t : Tree}
       (legal : IsLegal t) (h : Holds node_names bytes level around (part_of node_here pos) v regions before after)
@@ -198,16 +199,17 @@ module _ (bytes : List ℕ) where
       ends_here (known_ordered e f ns ds) g = absurd (cc)
       ends_here (known_hashed e f ns ds) g = absurd (cc)
       ends_here (known_kept e f ns ds) g = absurd (cc)
+      ends_here (known_whole e f n d) g = absurd (cc)
 
-      in_option : (rest : List Step) → On rest l → Known bytes v t → node_at t (inside ∷ rest) ≡ Some (leaf l) → LeafStands level around before pos v (inside ∷ rest) l
-      in_option rest on (known_leaf m e f) g = let k = subst (λ x. node_at x (inside ∷ rest) ≡ Some (leaf l)) f g in absurd (cc)
-      in_option rest on (known_shared e f) g = let k = subst (λ x. node_at x (inside ∷ rest) ≡ Some (leaf l)) f g in absurd (cc)
-      in_option rest on (known_none e f) g = let k = subst (λ x. node_at x (inside ∷ rest) ≡ Some (leaf l)) f g in absurd (cc)
-      in_option rest on (known_some {w = w} {u = u} e f n d) g =
+      in_option : (rest : List Step) → On rest l → Known bytes v t → node_at t (inside ∷ rest) ≡ Some (leaf l) → enters t (inside ∷ rest) ≡ false → LeafStands level around before pos v (inside ∷ rest) l
+      in_option rest on (known_leaf m e f) g z = let k = subst (λ x. node_at x (inside ∷ rest) ≡ Some (leaf l)) f g in absurd (cc)
+      in_option rest on (known_shared e f) g z = let k = subst (λ x. node_at x (inside ∷ rest) ≡ Some (leaf l)) f g in absurd (cc)
+      in_option rest on (known_none e f) g z = let k = subst (λ x. node_at x (inside ∷ rest) ≡ Some (leaf l)) f g in absurd (cc)
+      in_option rest on (known_some {w = w} {u = u} e f n d) g z =
           let k : node_at u rest ≡ Some (leaf l) = subst (λ x. node_at x (inside ∷ rest) ≡ Some (leaf l)) f g in
           let o = paid_at pos 4 (tagged_value 1 w) e h in
           let s = some_cases bytes o.payload_pos {w = w} refl o.holds in
-          let r = on s.node_pos _ _ w s.regions _ _ u n d (subst IsLegal f legal) s.holds k in
+          let r = on s.node_pos _ _ w s.regions _ _ u n d (subst IsLegal f legal) s.holds k (subst (λ x. enters x (inside ∷ rest) ≡ false) f z) in
           record {
             node = r.node;
             inner = 0 ∷ (0 ∷ r.inner);
@@ -218,59 +220,63 @@ module _ (bytes : List ℕ) where
             stands = o.stands r.part r.payload (0 ∷ (r.inner ++ 0 ∷ [])) (s.stands r.part r.payload (r.inner ++ 0 ∷ []) r.stands);
             own = r.own;
           }
-      in_option rest on (known_list e f ns ds) g = let k = subst (λ x. node_at x (inside ∷ rest) ≡ Some (leaf l)) f g in absurd (cc)
-      in_option rest on (known_ordered e f ns ds) g = let k = subst (λ x. node_at x (inside ∷ rest) ≡ Some (leaf l)) f g in absurd (cc)
-      in_option rest on (known_hashed e f ns ds) g = let k = subst (λ x. node_at x (inside ∷ rest) ≡ Some (leaf l)) f g in absurd (cc)
-      in_option rest on (known_kept e f ns ds) g = let k = subst (λ x. node_at x (inside ∷ rest) ≡ Some (leaf l)) f g in absurd (cc)
+      in_option rest on (known_list e f ns ds) g z = let k = subst (λ x. node_at x (inside ∷ rest) ≡ Some (leaf l)) f g in absurd (cc)
+      in_option rest on (known_ordered e f ns ds) g z = let k = subst (λ x. node_at x (inside ∷ rest) ≡ Some (leaf l)) f g in absurd (cc)
+      in_option rest on (known_hashed e f ns ds) g z = let k = subst (λ x. node_at x (inside ∷ rest) ≡ Some (leaf l)) f g in absurd (cc)
+      in_option rest on (known_kept e f ns ds) g z = let k = subst (λ x. node_at x (inside ∷ rest) ≡ Some (leaf l)) f g in absurd (cc)
+      in_option rest on (known_whole e f n d) g z = let k = subst (λ x. enters x (inside ∷ rest) ≡ false) f z in absurd (cc)
 
-      in_list : (i : ℕ) (rest : List Step) → On rest l → Known bytes v t → node_at t (place i ∷ rest) ≡ Some (leaf l) → LeafStands level around before pos v (place i ∷ rest) l
-      in_list i rest on (known_leaf m e f) g = let k = subst (λ x. node_at x (place i ∷ rest) ≡ Some (leaf l)) f g in absurd (cc)
-      in_list i rest on (known_shared e f) g = let k = subst (λ x. node_at x (place i ∷ rest) ≡ Some (leaf l)) f g in absurd (cc)
-      in_list i rest on (known_none e f) g = let k = subst (λ x. node_at x (place i ∷ rest) ≡ Some (leaf l)) f g in absurd (cc)
-      in_list i rest on (known_some e f n d) g = let k = subst (λ x. node_at x (place i ∷ rest) ≡ Some (leaf l)) f g in absurd (cc)
-      in_list i rest on (known_list {vs = vs} {ts = ts} e f ns ds) g =
-          let k = known_element i rest (leaf l) ns ds (subst IsLegal f legal).0 (subst (λ x. node_at x (place i ∷ rest) ≡ Some (leaf l)) f g) in
+      in_list : (i : ℕ) (rest : List Step) → On rest l → Known bytes v t → node_at t (place i ∷ rest) ≡ Some (leaf l) → enters t (place i ∷ rest) ≡ false → LeafStands level around before pos v (place i ∷ rest) l
+      in_list i rest on (known_leaf m e f) g z = let k = subst (λ x. node_at x (place i ∷ rest) ≡ Some (leaf l)) f g in absurd (cc)
+      in_list i rest on (known_shared e f) g z = let k = subst (λ x. node_at x (place i ∷ rest) ≡ Some (leaf l)) f g in absurd (cc)
+      in_list i rest on (known_none e f) g z = let k = subst (λ x. node_at x (place i ∷ rest) ≡ Some (leaf l)) f g in absurd (cc)
+      in_list i rest on (known_some e f n d) g z = let k = subst (λ x. node_at x (place i ∷ rest) ≡ Some (leaf l)) f g in absurd (cc)
+      in_list i rest on (known_list {vs = vs} {ts = ts} e f ns ds) g z =
+          let k = known_element i rest (leaf l) ns ds (subst IsLegal f legal).0 (subst (λ x. node_at x (place i ∷ rest) ≡ Some (leaf l)) f g) (subst (λ x. enters x (place i ∷ rest) ≡ false) f z) in
           let o = paid_at pos 5 (group vs) e h in
           let s = element_cases bytes o.payload_pos i k.value refl k.there o.holds in
-          listed l i rest k.value e k.there o s (on s.node_pos _ _ k.value s.regions s.since s.until k.tree k.node k.denotes k.legal s.holds k.found)
-      in_list i rest on (known_ordered e f ns ds) g = let k = subst (λ x. node_at x (place i ∷ rest) ≡ Some (leaf l)) f g in absurd (cc)
-      in_list i rest on (known_hashed e f ns ds) g = let k = subst (λ x. node_at x (place i ∷ rest) ≡ Some (leaf l)) f g in absurd (cc)
-      in_list i rest on (known_kept e f ns ds) g = let k = subst (λ x. node_at x (place i ∷ rest) ≡ Some (leaf l)) f g in absurd (cc)
+          listed l i rest k.value e k.there o s (on s.node_pos _ _ k.value s.regions s.since s.until k.tree k.node k.denotes k.legal s.holds k.found k.outside)
+      in_list i rest on (known_ordered e f ns ds) g z = let k = subst (λ x. node_at x (place i ∷ rest) ≡ Some (leaf l)) f g in absurd (cc)
+      in_list i rest on (known_hashed e f ns ds) g z = let k = subst (λ x. node_at x (place i ∷ rest) ≡ Some (leaf l)) f g in absurd (cc)
+      in_list i rest on (known_kept e f ns ds) g z = let k = subst (λ x. node_at x (place i ∷ rest) ≡ Some (leaf l)) f g in absurd (cc)
+      in_list i rest on (known_whole e f n d) g z = let k = subst (λ x. node_at x (place i ∷ rest) ≡ Some (leaf l)) f g in absurd (cc)
 
       -- of a map of any kind
       in_pairs : (kind : MapKind) (k : List ℕ) (rest : List Step) {vs : Values} {ps : Pairs} → On rest l
           → v ≡ tagged_value (kind_tag kind) (group vs) → t ≡ map kind (in_order kind ps) → PairValues bytes vs → DenotePairs vs ps
-          → node_at t (key k ∷ rest) ≡ Some (leaf l) → LeafStands level around before pos v (key k ∷ rest) l
-      in_pairs kind k rest {vs = vs} {ps = ps} on e f ns ds g =
+          → node_at t (key k ∷ rest) ≡ Some (leaf l) → enters t (key k ∷ rest) ≡ false → LeafStands level around before pos v (key k ∷ rest) l
+      in_pairs kind k rest {vs = vs} {ps = ps} on e f ns ds g z =
           let all = distinct kind [] (in_order kind ps) (subst IsLegal f legal).0 in
           let there = sym (node_in_order kind k rest ps) ∙ subst (λ x. node_at x (key k ∷ rest) ≡ Some (leaf l)) f g in
-          let p = known_pair k rest (leaf l) ns ds (distinct_in_order kind ps all) there in
+          let free = sym (enters_in_order kind k rest ps) ∙ subst (λ x. enters x (key k ∷ rest) ≡ false) f z in
+          let p = known_pair k rest (leaf l) ns ds (distinct_in_order kind ps all) there free in
           let o = paid_at pos (kind_tag kind) (group vs) e h in
           let s = pair_case kind o.payload_pos p.number k p.value p.there o.holds in
           mapped l (kind_tag kind) (place_of (kind_tag kind)) k p.number rest p.value e (is_high kind) p.there o s
-          (on s.node_pos s.deeper around p.value s.regions s.since s.until p.tree p.node p.denotes p.legal s.holds p.found)
+          (on s.node_pos s.deeper around p.value s.regions s.since s.until p.tree p.node p.denotes p.legal s.holds p.found p.outside)
 
-      in_map : (k : List ℕ) (rest : List Step) → On rest l → Known bytes v t → node_at t (key k ∷ rest) ≡ Some (leaf l) → LeafStands level around before pos v (key k ∷ rest) l
-      in_map k rest on (known_leaf m e f) g = let n = subst (λ x. node_at x (key k ∷ rest) ≡ Some (leaf l)) f g in absurd (cc)
-      in_map k rest on (known_shared e f) g = let n = subst (λ x. node_at x (key k ∷ rest) ≡ Some (leaf l)) f g in absurd (cc)
-      in_map k rest on (known_none e f) g = let n = subst (λ x. node_at x (key k ∷ rest) ≡ Some (leaf l)) f g in absurd (cc)
-      in_map k rest on (known_some e f n d) g = let n = subst (λ x. node_at x (key k ∷ rest) ≡ Some (leaf l)) f g in absurd (cc)
-      in_map k rest on (known_list e f ns ds) g = let n = subst (λ x. node_at x (key k ∷ rest) ≡ Some (leaf l)) f g in absurd (cc)
-      in_map k rest on (known_ordered e f ns ds) g = in_pairs ordered k rest on e f ns ds g
-      in_map k rest on (known_hashed e f ns ds) g = in_pairs hashed k rest on e f ns ds g
-      in_map k rest on (known_kept e f ns ds) g = in_pairs kept k rest on e f ns ds g
+      in_map : (k : List ℕ) (rest : List Step) → On rest l → Known bytes v t → node_at t (key k ∷ rest) ≡ Some (leaf l) → enters t (key k ∷ rest) ≡ false → LeafStands level around before pos v (key k ∷ rest) l
+      in_map k rest on (known_leaf m e f) g z = let n = subst (λ x. node_at x (key k ∷ rest) ≡ Some (leaf l)) f g in absurd (cc)
+      in_map k rest on (known_shared e f) g z = let n = subst (λ x. node_at x (key k ∷ rest) ≡ Some (leaf l)) f g in absurd (cc)
+      in_map k rest on (known_none e f) g z = let n = subst (λ x. node_at x (key k ∷ rest) ≡ Some (leaf l)) f g in absurd (cc)
+      in_map k rest on (known_some e f n d) g z = let n = subst (λ x. node_at x (key k ∷ rest) ≡ Some (leaf l)) f g in absurd (cc)
+      in_map k rest on (known_list e f ns ds) g z = let n = subst (λ x. node_at x (key k ∷ rest) ≡ Some (leaf l)) f g in absurd (cc)
+      in_map k rest on (known_ordered e f ns ds) g z = in_pairs ordered k rest on e f ns ds g z
+      in_map k rest on (known_hashed e f ns ds) g z = in_pairs hashed k rest on e f ns ds g z
+      in_map k rest on (known_kept e f ns ds) g z = in_pairs kept k rest on e f ns ds g z
+      in_map k rest on (known_whole e f n d) g z = let m = subst (λ x. node_at x (key k ∷ rest) ≡ Some (leaf l)) f g in absurd (cc)
 
   pub leaf_stands : (path : List Step) (l : Leaf) → On path l
-  leaf_stands [] l pos level around v regions before after t n d legal h g = ends_here l legal h (known n d) g
-  leaf_stands (inside ∷ rest) l pos level around v regions before after t n d legal h g = in_option l legal h rest (leaf_stands rest l) (known n d) g
-  leaf_stands (place i ∷ rest) l pos level around v regions before after t n d legal h g = in_list l legal h i rest (leaf_stands rest l) (known n d) g
-  leaf_stands (key k ∷ rest) l pos level around v regions before after t n d legal h g = in_map l legal h k rest (leaf_stands rest l) (known n d) g
+  leaf_stands [] l pos level around v regions before after t n d legal h g z = ends_here l legal h (known n d) g
+  leaf_stands (inside ∷ rest) l pos level around v regions before after t n d legal h g z = in_option l legal h rest (leaf_stands rest l) (known n d) g z
+  leaf_stands (place i ∷ rest) l pos level around v regions before after t n d legal h g z = in_list l legal h i rest (leaf_stands rest l) (known n d) g z
+  leaf_stands (key k ∷ rest) l pos level around v regions before after t n d legal h g z = in_map l legal h k rest (leaf_stands rest l) (known n d) g z
 
 pub leaves_stand_law : LeavesStand
-leaves_stand_law bytes t path l a g =
+leaves_stand_law bytes t path l a g z =
     let pos = root_position (length bytes) node_shape in
     let b = behind_below bytes pos a.root.holds in
-    let r = leaf_stands bytes path l pos 1 [] a.value b.regions [] a.visits t (held bytes a.root.holds node_behind pos refl (none_seen bytes)).value a.denotes a.document.0 b.holds g in
+    let r = leaf_stands bytes path l pos 1 [] a.value b.regions [] a.visits t (held bytes a.root.holds node_behind pos refl (none_seen bytes)).value a.denotes a.document.0 b.holds g z in
     let stands = b.stands r.part r.payload (r.inner ++ 0 ∷ []) r.stands in
     by_case r.node r.inner r.leads r.part r.payload stands r.own
   where

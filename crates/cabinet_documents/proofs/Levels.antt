@@ -7,7 +7,7 @@ use Rattle.archive_forms_values.specs.ShapeLayout.Bytes.{align_up}
 use Rattle.archive_forms_values.specs.ShapeLayout.Shape.{Shape, align_of, size_of}
 use Rattle.archive_forms_values.specs.ShapeLayout.Shape.Alignment.{eight}
 use Rattle.archive_forms_values.specs.ShapeLayout.Shape.Shape.{number, truth, text, option, choice, vector, tree, table, index_map, shared as shared_shape}
-use Rattle.archive_forms_values.specs.ShapeLayout.Shape.Pointee.{str}
+use Rattle.archive_forms_values.specs.ShapeLayout.Shape.Pointee.{sized, str}
 use Rattle.archive_forms_values.specs.ShapeLayout.Value.Value.{integer, boolean}
 use Rattle.archive_forms_values.specs.ShapeLayout.Content.{shape_tagged}
 use Rattle.archive_forms_values.specs.ShapeLayout.Numbers.{truth_bytes}
@@ -19,7 +19,8 @@ use Rattle.archive_forms_values.specs.FormsLaws.Forms.{seen_as}
 use Rattle.archive_forms_values.specs.FormsLaws.Pointers.{slice_spelling, box_spelling}
 use Rattle.archive_forms_values.specs.FormsLaws.Payloads.{payload_spelling}
 use Rattle.archive_forms_values.specs.FormsLaws.Texts.{text_spelling}
-use Rattle.archive_forms_values.specs.FormsLaws.Shared.{shared_text_spelling}
+use Rattle.archive_forms_values.specs.FormsLaws.Shared.{shared_text_spelling, shared_value_spelling}
+use Rattle.archive_forms_laws.proofs.Behind.{value_behind}
 use Rattle.archive_forms_laws.proofs.Fields.{tuple2_spells_at}
 use Rattle.archive_forms_laws.proofs.Leaves.{leaf_spells}
 use Rattle.archive_forms_laws.proofs.Levels.{named_spells_at, self_spells}
@@ -27,7 +28,7 @@ use Rattle.archive_forms_laws.proofs.Options.{none_spells, some_spells}
 use Rattle.archive_forms_laws.proofs.Payloads.{variant_spells_at}
 use Rattle.archive_forms_laws.proofs.Pointers.{box_spells_at, slice_spells_at}
 use Rattle.archive_forms_laws.proofs.Texts.{text_spells}
-use Rattle.archive_forms_laws.proofs.Shared.{shared_text_spells}
+use Rattle.archive_forms_laws.proofs.Shared.{shared_text_spells, shared_spells_at}
 use Rattle.archive_forms_laws.proofs.Views.{kept_spells_at, seen_spells_at}
 use Rattle.archive_btree_spelling.specs.Maps.{btree_spelling}
 use Rattle.archive_btree_spelling.proofs.Slots.{EachEntrySpells}
@@ -40,13 +41,13 @@ use Rattle.archive_index_spelling.specs.Maps.{index_spelling}
 use Rattle.archive_index_spelling.specs.Resolvers.{resolver_of, positions_of}
 use Rattle.archive_index_spelling.proofs.Maps.{index_spells_at}
 use Rattle.cabinet_text_grammar.specs.Keys.{ordered, hashed, kept}
-use Rattle.cabinet_text_grammar.specs.TextKey.{text_key}
 use Rattle.cabinet_text_grammar.specs.Tree as document
 use Rattle.cabinet_text_grammar.specs.Tree.{Tree, Trees, Pairs, leaf, shared, nothing, just, list, map, whole, no_trees, more_trees, no_pairs, more_pairs, depth, most_depth, pairs_depth}
-use Rattle.cabinet_documents.specs.Node.{KnowsNode, node_shape, pair_shape, payloads}
+use Rattle.cabinet_documents.specs.Node.{KnowsNode, node_shape, pair_shape, whole_shape, payloads}
+use Rattle.cabinet_documents.specs.SharedKeys.{key_of_text, key_of_whole}
 use Rattle.cabinet_documents.specs.declared.spelling.resolver.NodeResolver.{NodeResolver}
 use Rattle.cabinet_documents.specs.declared.spelling.resolver.NodeResolver.TheVariants as resolver
-use Rattle.cabinet_documents.specs.Spelling.{truth_spelling, number_spelling, shared_string_spelling, boxed_shape, boxed_spelling, maybe_spelling, list_spelling, ordered_spelling, pair_spelling, hashed_spelling, kept_spelling, trees_in, pairs_in, text_in, shared_in, maybe_in, list_in, ordered_in, hashed_in, kept_in, node_of, refused, spelling_of, node_level}
+use Rattle.cabinet_documents.specs.Spelling.{truth_spelling, number_spelling, shared_string_spelling, boxed_shape, boxed_spelling, maybe_spelling, list_spelling, ordered_spelling, pair_spelling, hashed_spelling, kept_spelling, trees_in, pairs_in, text_in, shared_in, maybe_in, list_in, ordered_in, hashed_in, kept_in, whole_in, whole_spelling, node_of, refused, spelling_of, node_level}
 use Rattle.cabinet_documents.specs.SpellingLaws.{NodeSpells}
 use Rattle.archive_forms_rc.specs.FormsWriting.Owned.{str_spelling}
 
@@ -63,7 +64,13 @@ module _ (fit : Fit) where
   text_spells_here : (s : List ℕ) → SpellsAt fit text KnowsNode str_spelling s
   text_spells_here s = kept_spells_at fit text KnowsNode _ _ (λ r. refl) text_spelling s (text_spells fit KnowsNode s)
 
-  module _ (w : Spelling Tree NodeResolver) where
+  module _ (wholes : List Tree) (w : Spelling Tree NodeResolver) where
+    -- the node in a whole, where it is shared
+    whole_spells : (t : Tree) → SpellsAt fit node_shape KnowsNode w t → SpellsAt fit whole_shape KnowsNode (shared_value_spelling node_shape (key_of_whole wholes) w) t
+    whole_spells t one =
+        shared_spells_at fit false (sized node_shape) KnowsNode (λ y. 1) (key_of_whole wholes) (box_spelling node_shape w) t
+        (box_spells_at fit node_shape KnowsNode w t one) (value_behind fit node_shape KnowsNode w t one)
+
     each_below : (n : ℕ) (ts : Trees) → suc (most_depth ts) ≤ n → ((y : Tree) → suc (depth y) ≤ n → SpellsAt fit node_shape KnowsNode w y)
         → EachSpells fit node_shape KnowsNode w (trees_in ts)
     each_below n no_trees less below = tt
@@ -103,7 +110,7 @@ module _ (fit : Fit) where
 
     -- by the kind of a document
     case_spells : (n : ℕ) (t : Tree) → depth t ≤ n → ((y : Tree) → suc (depth y) ≤ n → SpellsAt fit node_shape KnowsNode w y)
-        → SpellsAt fit (choice payloads) KnowsNode (spelling_of w t) t
+        → SpellsAt fit (choice payloads) KnowsNode (spelling_of wholes w t) t
     case_spells n (leaf (document.truth b)) less below =
         node_of_spells 0 truth truth_spelling (λ _. resolver.Leaf) (λ _. tt) (λ r. refl) (omega arith) refl b (leaf (document.truth b))
         (leaf_spells fit truth KnowsNode truth_bytes boolean tt b)
@@ -114,7 +121,7 @@ module _ (fit : Fit) where
         node_of_spells 2 text str_spelling resolver.Text text_in (λ r. refl) (omega arith) refl s (leaf (document.text s)) (text_spells_here s)
     case_spells n (shared s) less below =
         node_of_spells 3 (shared_shape false str) shared_string_spelling resolver.Shared shared_in (λ r. refl) (omega arith) refl s (shared s)
-        (kept_spells_at fit (shared_shape false str) KnowsNode _ _ (λ r. refl) (shared_text_spelling text_key) s (shared_text_spells fit false KnowsNode text_key s))
+        (kept_spells_at fit (shared_shape false str) KnowsNode _ _ (λ r. refl) (shared_text_spelling key_of_text) s (shared_text_spells fit false KnowsNode key_of_text s))
     case_spells n nothing less below =
         node_of_spells 4 (option boxed_shape) (maybe_spelling w) resolver.Maybe maybe_in (λ r. refl) (omega arith) refl None nothing
         (none_spells fit boxed_shape KnowsNode (boxed_spelling w))
@@ -143,23 +150,17 @@ module _ (fit : Fit) where
         node_of_spells 8 (index_map text node_shape) (kept_spelling w) resolver.Kept kept_in (λ r. refl) (omega arith) refl xs (map kept ps)
         (kept_spells_at fit (index_map text node_shape) KnowsNode resolver_of positions_of (λ r. refl) (index_spelling 7 8 pair_shape (pair_spelling w) hash) xs
         (index_spells_at fit text node_shape KnowsNode (pair_spelling w) 7 8 hash xs (text_hashes_small (λ p. p.0) xs) (each_pair_below n ps less below)))
-    case_spells n (whole t) less below = record {
-      sized = λ r pos fits. absurd fits;
-      canonical = λ st pos names keys bytes level inside k n met state over fits own p q. absurd fits;
-      consistent = λ st state fits. absurd fits;
-      keyed = λ keys st n met fits. absurd fits;
-      piece_bytes = λ st fits. absurd fits;
-      own_bytes = λ r pos fits. absurd fits;
-      piece_exact = λ st e fits past. fits;
-      own_exact = λ r pos e fits past. fits;
-    }
+    case_spells n (whole t) less below =
+        node_of_spells 9 whole_shape (whole_spelling wholes w) resolver.Whole whole_in (λ r. refl) (omega arith) refl t (whole t)
+        (kept_spells_at fit whole_shape KnowsNode _ _ (λ r. refl) (shared_value_spelling node_shape (key_of_whole wholes) w) t
+        (whole_spells t (below t less)))
 
     level_spells : (n : ℕ) (t : Tree) → depth t ≤ n → ((y : Tree) → suc (depth y) ≤ n → SpellsAt fit node_shape KnowsNode w y)
-        → SpellsAt fit node_shape KnowsNode (node_level w) t
+        → SpellsAt fit node_shape KnowsNode (node_level wholes w) t
     unfolding align_up
     level_spells n t less below =
         let one = case_spells n t less below in
-        named_spells_at (choice payloads) 0 24 eight refl refl fit KnowsNode (λ names known. known) (node_level w) t (record {
+        named_spells_at (choice payloads) 0 24 eight refl refl fit KnowsNode (λ names known. known) (node_level wholes w) t (record {
           sized = one.sized;
           canonical = one.canonical;
           consistent = one.consistent;
@@ -171,4 +172,4 @@ module _ (fit : Fit) where
         })
 
 pub node_spells_law : NodeSpells
-node_spells_law fit = self_spells fit node_shape KnowsNode node_level refused depth (λ w n x less below. level_spells fit w n x less below)
+node_spells_law wholes fit = self_spells fit node_shape KnowsNode (node_level wholes) refused depth (λ w n x less below. level_spells fit wholes w n x less below)

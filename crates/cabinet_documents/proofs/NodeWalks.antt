@@ -5,9 +5,9 @@ use Rattle.std.specs.Int.{from_le_bytes}
 use Rattle.archive_forms_values.specs.ShapeLayout.Bytes.{window, align_up, word_at, target_from}
 use Rattle.archive_forms_values.specs.ShapeLayout.Shape.{Shape, align_of, size_of}
 use Rattle.archive_forms_values.specs.ShapeLayout.Shape.Shape.{number, truth, text, shared}
-use Rattle.archive_forms_values.specs.ShapeLayout.Shape.Pointee.{slice, str}
+use Rattle.archive_forms_values.specs.ShapeLayout.Shape.Pointee.{sized, slice, str}
 use Rattle.archive_forms_values.specs.ShapeLayout.Value.{Value, Values}
-use Rattle.archive_forms_values.specs.ShapeLayout.Value.Value.{boolean, group, chosen}
+use Rattle.archive_forms_values.specs.ShapeLayout.Value.Value.{boolean, group, chosen, counted}
 use Rattle.archive_forms_values.specs.ShapeLayout.Value.Values.{no_values}
 use Rattle.archive_forms_values.specs.ShapeLayout.Content.{Names, Part, Label, content_of, choose, following, made, option_content, shape_tagged, shape_content, shared_content, pointee_content, number_value, elements}
 use Rattle.archive_forms_values.specs.ShapeLayout.Content.Part.{at, behind}
@@ -22,7 +22,7 @@ use Rattle.cabinet_documents.specs.Node.{node_shape, node_names, payloads}
 use Rattle.cabinet_documents.specs.Denotes.{tagged_value}
 use Rattle.cabinet_documents.specs.Walk.{Stop, Walks, WalkAll}
 use Rattle.cabinet_documents.specs.Audit.{too_deep, unless, faults}
-use Rattle.cabinet_documents.proofs.Places.{node_here, payload_here, option_here, box_here, list_here, ordered_here, table_here, index_here, node_behind, part_of}
+use Rattle.cabinet_documents.proofs.Places.{node_here, payload_here, option_here, box_here, list_here, ordered_here, table_here, index_here, whole_here, node_behind, part_of}
 use Rattle.cabinet_documents.proofs.Begun.{faults-flat, Ends, begun, not_walked, no_walks, first_walk, ends, onward}
 use Rattle.cabinet_documents.proofs.TreeWalks.{QuietKeys, behind_quiet, text_quiet}
 
@@ -43,6 +43,16 @@ pub data OptionWalk (bytes : List ℕ) (depth pos : ℕ) (v : Value) (walk : Lis
       → Walks node_names bytes (depth + 1) (part_of node_here to) w run
       → faults bytes walk ≡ unless (nat_lt depth 64) too_deep ++ faults bytes run
       → OptionWalk bytes depth pos v walk
+
+-- a whole: the walk of the node that its pointer leads to
+pub record WholeWalk (bytes : List ℕ) (depth pos : ℕ) (v : Value) (walk : List Stop) : Type 0 where
+  pub to : ℕ
+  pub inner : Value
+  pub run : List Stop
+  pub target : target_from pos (word_at bytes pos) ≡ Some to
+  pub value_is : v ≡ counted to inner
+  pub node : Walks node_names bytes (depth + 1) (part_of node_here to) inner run
+  pub faults_are : faults bytes walk ≡ unless (nat_lt depth 64) too_deep ++ faults bytes run
 
 -- the walk of a list at a position: its nodes lie side by side from `to` on, as many as the word after the pointer says
 pub record ListWalk (bytes : List ℕ) (depth pos : ℕ) (v : Value) (walk : List Stop) : Type 0 where
@@ -102,6 +112,14 @@ pub data NodeWalk (bytes : List ℕ) (depth pos : ℕ) (v : Value) (walk : List 
       → slice_index bytes pos ≡ 8
       → v ≡ tagged_value 8 w
       → Walks node_names bytes depth (part_of index_here (pos + 4)) w run
+      → faults bytes walk ≡ faults bytes run
+      → NodeWalk bytes depth pos v walk
+  -- a whole
+  whole_walks :
+      {w : Value} {run : List Stop}
+      → slice_index bytes pos ≡ 9
+      → v ≡ tagged_value 9 w
+      → Walks node_names bytes depth (part_of whole_here (pos + 4)) w run
       → faults bytes walk ≡ faults bytes run
       → NodeWalk bytes depth pos v walk
 
@@ -194,6 +212,34 @@ module _ (bytes : List ℕ) where
       option_cases (slice_index bytes pos == 0) (slice_index bytes pos == 1) pos refl refl
       (ap (λ n. choose (n == 0) (plain (tagged 0) []) (choose (n == 1) (plain (tagged 1) (part_of box_here (pos + 4) ∷ [])) illegal)) (own_tag bytes pos 8 (omega arith))) h
 
+  -- ---- wholes
+
+  whole_cases : (o : Option ℕ) {depth : ℕ} (pos : ℕ) {v : Value} {walk : List Stop}
+      → target_from pos (word_at bytes pos) ≡ o
+      → content_of node_names bytes (part_of whole_here pos) ≡ following o (λ t. counting false t (sized node_shape) 1)
+      → Walks node_names bytes depth (part_of whole_here pos) v walk → WholeWalk bytes depth pos v walk
+  unfolding following
+  whole_cases None pos leads e h = absurd (not_walked node_names bytes e h)
+  whole_cases (Some t) {depth = depth} pos {v = v} leads e h =
+      let o = onward node_names bytes (counting false t (sized node_shape) 1) refl (λ run. refl) e h in
+      let b = behind_walk t o.next in
+      let value_is : v ≡ counted t o.value = let m = o.is_made in cc in
+      record {
+        to = t;
+        inner = o.value;
+        run = b.run;
+        target = leads;
+        value_is = value_is;
+        node = b.node;
+        faults_are = o.faults_are ∙ ap (λ x. x ++ faults bytes o.run) (append-nil (unless (nat_lt depth 64) too_deep)) ∙ ap (λ x. unless (nat_lt depth 64) too_deep ++ x) b.faults_are;
+      }
+
+  pub whole_walk : {depth : ℕ} (pos : ℕ) {v : Value} {walk : List Stop} → Walks node_names bytes depth (part_of whole_here pos) v walk → WholeWalk bytes depth pos v walk
+  unfolding shape_content shared_content
+  whole_walk pos h =
+      whole_cases (target_from pos (word_at bytes pos)) pos refl
+      (ap (λ n. following (target_from pos n) (λ t. counting false t (sized node_shape) 1)) (first_word bytes pos 4 (omega arith))) h
+
   -- ---- lists
 
   list_cases : (o : Option ℕ) (len : ℕ) {depth : ℕ} (pos : ℕ) {v : Value} {walk : List Stop}
@@ -273,7 +319,9 @@ module _ (bytes : List ℕ) where
       let p = paid 7 pos (part_of table_here (pos + 4)) {walk = walk} (payload_content 7 pos e) around h in hashed_walks e p.value_is p.next p.faults_are
   payload_walk (suc (suc (suc (suc (suc (suc (suc (suc zero)))))))) pos {walk = walk} e around h =
       let p = paid 8 pos (part_of index_here (pos + 4)) {walk = walk} (payload_content 8 pos e) around h in kept_walks e p.value_is p.next p.faults_are
-  payload_walk (suc (suc (suc (suc (suc (suc (suc (suc (suc n))))))))) pos e around h = absurd (not_walked node_names bytes (payload_content (suc (suc (suc (suc (suc (suc (suc (suc (suc n))))))))) pos e) h)
+  payload_walk (suc (suc (suc (suc (suc (suc (suc (suc (suc zero))))))))) pos {walk = walk} e around h =
+      let p = paid 9 pos (part_of whole_here (pos + 4)) {walk = walk} (payload_content 9 pos e) around h in whole_walks e p.value_is p.next p.faults_are
+  payload_walk (suc (suc (suc (suc (suc (suc (suc (suc (suc (suc n)))))))))) pos e around h = absurd (not_walked node_names bytes (payload_content (suc (suc (suc (suc (suc (suc (suc (suc (suc (suc n)))))))))) pos e) h)
 
   pub node_walk : {depth : ℕ} (pos : ℕ) {v : Value} {walk : List Stop} → Walks node_names bytes depth (part_of node_here pos) v walk → NodeWalk bytes depth pos v walk
   unfolding shape_content choose align_up

@@ -12,7 +12,7 @@ use Rattle.archive_forms_values.specs.ShapeCanonical.Canonical.{AreBytes}
 use Rattle.cabinet_documents.specs.Node.{node_names}
 use Rattle.cabinet_documents.specs.Denotes.{tagged_value, pair_value}
 use Rattle.cabinet_documents.specs.Table.{full_from}
-use Rattle.cabinet_documents.proofs.Places.{Place, node_here, payload_here, truth_here, number_here, text_here, shared_here, option_here, box_here, list_here, ordered_here, table_here, index_here, pair_here, tree_node, tree_child, entry_here, buckets_here, numbers_here, entry_number, node_behind, nodes_behind, pairs_behind, text_behind, Spot, nodes_from, pairs_from, entries_from, children_from, items_from, Passes, node_passes, box_passes, behind_passes, list_passes, text_passes, child_passes, table_passes, Pays, pays_truth, pays_number, pays_text, pays_shared, pays_option, pays_list, pays_ordered, pays_hashed, pays_kept, Follows, passes, pays, truth_is, number_is, text_is, behind_is, none_is, some_is, nodes_follow, empty_is, total_is, leaf_follows, inner_follows, no_child_is, entry_follows, no_items_is, items_follow, no_entries_is, entries_second, numbers_follow, entry_number_is, pairs_follow, pair_follows}
+use Rattle.cabinet_documents.proofs.Places.{Place, node_here, payload_here, truth_here, number_here, text_here, shared_here, option_here, box_here, list_here, ordered_here, table_here, index_here, whole_here, pair_here, tree_node, tree_child, entry_here, buckets_here, numbers_here, entry_number, node_behind, nodes_behind, pairs_behind, text_behind, Spot, nodes_from, pairs_from, entries_from, children_from, items_from, Passes, node_passes, box_passes, behind_passes, list_passes, text_passes, child_passes, table_passes, Pays, pays_truth, pays_number, pays_text, pays_shared, pays_option, pays_list, pays_ordered, pays_hashed, pays_kept, pays_whole, Follows, passes, pays, truth_is, number_is, text_is, behind_is, none_is, some_is, nodes_follow, empty_is, total_is, leaf_follows, inner_follows, no_child_is, entry_follows, no_items_is, items_follow, no_entries_is, entries_second, numbers_follow, entry_number_is, pairs_follow, pair_follows}
 use Rattle.std.specs.Prelude.{⊤}
 
 -- ---- what is not legal has no value
@@ -42,6 +42,7 @@ mutual
     ordered_value : {v : Value} {vs : Values} → v ≡ tagged_value 6 (group vs) → PairValues bytes vs → (AreBytes bytes → count_values vs < 2 ^ 64) → NodeValue bytes v
     hashed_value : {v : Value} {vs : Values} → v ≡ tagged_value 7 (group vs) → PairValues bytes vs → (AreBytes bytes → count_values vs < 2 ^ 64) → NodeValue bytes v
     kept_value : {v : Value} {vs : Values} → v ≡ tagged_value 8 (group vs) → PairValues bytes vs → (AreBytes bytes → count_values vs < 2 ^ 64) → NodeValue bytes v
+    whole_value : {v w : Value} {t : ℕ} → v ≡ tagged_value 9 (counted t w) → NodeValue bytes w → NodeValue bytes v
 
   pub data NodeValues (bytes : List ℕ) : Values → Type 0 where
     no_nodes : {vs : Values} → vs ≡ no_values → NodeValues bytes vs
@@ -71,6 +72,12 @@ pub record SharedValue (v : Value) : Type 0 where
   pub s : List ℕ
   pub is : v ≡ counted t (string s)
   pub utf8 : IsUtf8 s
+
+pub record WholeValue (bytes : List ℕ) (v : Value) : Type 0 where
+  pub t : ℕ
+  pub w : Value
+  pub is : v ≡ counted t w
+  pub node : NodeValue bytes w
 
 pub data OptionValue (bytes : List ℕ) (v : Value) : Type 0 where
   option_none : v ≡ chosen 0 no_values → OptionValue bytes v
@@ -128,6 +135,7 @@ ValueAt bytes list_here v = ListValue bytes v
 ValueAt bytes ordered_here v = MapValue bytes v
 ValueAt bytes table_here v = MapValue bytes v
 ValueAt bytes index_here v = MapValue bytes v
+ValueAt bytes whole_here v = WholeValue bytes v
 ValueAt bytes pair_here v = PairValue bytes v
 ValueAt bytes (tree_node level) v = PairsValue bytes v
 ValueAt bytes (tree_child level) v = PairsValue bytes v
@@ -166,6 +174,7 @@ module _ (bytes : List ℕ) where
   one_paid pays_ordered e h = ordered_value (e ∙ ap (tagged_value 6) h.is) h.pairs h.small
   one_paid pays_hashed e h = hashed_value (e ∙ ap (tagged_value 7) h.is) h.pairs h.small
   one_paid pays_kept e h = kept_value (e ∙ ap (tagged_value 8) h.is) h.pairs h.small
+  one_paid pays_whole e h = whole_value (e ∙ ap (tagged_value 9) h.is) h.node
 
   record Nodes (n : ℕ) (vs : Values) : Type 0 where
     nodes : NodeValues bytes vs

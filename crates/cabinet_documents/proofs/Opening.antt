@@ -5,10 +5,11 @@ use Rattle.archive_forms_values.specs.ShapeLayout.Value.{Value, Values, count_va
 use Rattle.archive_forms_values.specs.ShapeLayout.Holds.{root_position}
 use Rattle.archive_forms_values.specs.ShapeCanonical.Canonical.{AreBytes}
 use Rattle.cabinet_text_grammar.specs.Keys.{ordered, hashed, kept}
-use Rattle.cabinet_text_grammar.specs.Tree.{truth, number, text, Tree, leaf, shared, nothing, just, list, map, Trees, no_trees, more_trees, count, IsLegal, AreLegal, Pairs, no_pairs as no_pairs_of, more_pairs as more_pairs_of, pair_count, ArePairs}
+use Rattle.cabinet_text_grammar.specs.Tree.{truth, number, text, Tree, leaf, shared, nothing, just, list, map, whole, Trees, no_trees, more_trees, count, depth, IsLegal, AreLegal, Pairs, no_pairs as no_pairs_of, more_pairs as more_pairs_of, pair_count, ArePairs}
+use Rattle.cabinet_text_grammar.proofs.Tables.{table_wholes}
 use Rattle.cabinet_documents.specs.Node.{node_shape, node_names}
 use Rattle.cabinet_documents.specs.Denotes.{Denotes, DenoteAll, DenotePairs}
-use Rattle.cabinet_documents.specs.Denotes.Denotes.{denotes_truth, denotes_number, denotes_text, denotes_shared, denotes_nothing, denotes_some, denotes_list, denotes_ordered, denotes_hashed, denotes_kept}
+use Rattle.cabinet_documents.specs.Denotes.Denotes.{denotes_truth, denotes_number, denotes_text, denotes_shared, denotes_nothing, denotes_some, denotes_list, denotes_ordered, denotes_hashed, denotes_kept, denotes_whole}
 use Rattle.cabinet_documents.specs.Denotes.DenoteAll.{denote_none, denote_more}
 use Rattle.cabinet_documents.specs.Denotes.DenotePairs.{denote_no_pairs, denote_pair}
 use Rattle.cabinet_documents.specs.Order.{ascend, arranged}
@@ -17,11 +18,11 @@ use Rattle.cabinet_documents.specs.Walk.{Stop, is_container}
 use Rattle.cabinet_documents.specs.Audit.{too_deep, unless, deep_faults, map_faults, faults}
 use Rattle.cabinet_documents.specs.Laws.{AcceptedStands}
 use Rattle.cabinet_documents.proofs.Places.{node_behind}
-use Rattle.cabinet_documents.proofs.Nodes.{NodeValue, truth_value, number_value, text_value, shared_value, none_value, some_value, list_value, ordered_value, hashed_value, kept_value, NodeValues, no_nodes, more_nodes, PairValues, no_pairs, more_pairs}
+use Rattle.cabinet_documents.proofs.Nodes.{NodeValue, truth_value, number_value, text_value, shared_value, none_value, some_value, list_value, ordered_value, hashed_value, kept_value, whole_value, NodeValues, no_nodes, more_nodes, PairValues, no_pairs, more_pairs}
 use Rattle.cabinet_documents.proofs.HeldNodes.{none_seen, held}
 use Rattle.cabinet_documents.proofs.Arranged.{AreEachLegal, arranged_pairs, kept_pairs, arranged_count}
 use Rattle.cabinet_documents.proofs.ByKey.{AreKeysDistinct, pair_keys}
-use Rattle.cabinet_documents.proofs.NoWholes.{few_wholes, denoted_has_no_wholes}
+use Rattle.cabinet_documents.proofs.FewWholes.{few_wholes}
 use Rattle.cabinet_documents.proofs.FoundKeys.{no_left, no_right}
 use Rattle.cabinet_documents.proofs.Keyed.{AscendAfter, first_after, keys_denoted}
 use Rattle.cabinet_documents.proofs.Heights.{Keyed, AllKeyed, height_is}
@@ -104,6 +105,9 @@ mutual
             let k : AreKeysDistinct (item_keys vs) × (AllKeyed vs × ⊤) = subst Keyed e keyed in
             (kept_pairs r.pairs (r.legal small k.1.0) (subst AreKeysDistinct (keys_denoted r.denote) k.0), subst (λ n. n < 2 ^ 64) (sym r.counted) (few small));
       }
+  of_tree (whole_value {w = w} e n) =
+      let r = of_tree n in
+      record { tree = whole r.tree; denotes = denotes_whole e refl r.denotes; legal = λ small keyed. let k : ⊤ × (Keyed w × ⊤) = subst Keyed e keyed in r.legal small k.1.0 }
 
   of_trees : {bytes : List ℕ} {vs : Values} → NodeValues bytes vs → OfTrees bytes vs
   of_trees (no_nodes e) = record { trees = no_trees; denote = denote_none e refl; legal = λ small keyed. tt; counted = sym (ap count_values e) }
@@ -157,7 +161,7 @@ quiet bytes (s ∷ rest) e =
     (no_right (deep_faults s) (map_faults bytes s.part s.value) here, quiet bytes rest (no_right (deep_faults s ++ map_faults bytes s.part s.value) (faults bytes rest) e))
 
 pub accepted_stands_law : AcceptedStands
-accepted_stands_law bytes v regions visits walk small root walked none =
+accepted_stands_law bytes v regions visits walk small counted root walked none =
     let pos = root_position (length bytes) node_shape in
     let h = held bytes root.holds node_behind pos refl (none_seen bytes) in
     let r = of_tree h.value in
@@ -167,7 +171,10 @@ accepted_stands_law bytes v regions visits walk small root walked none =
     let known = known_stops node_names bytes root h.acyclic walked in
     let sound = quiet_maps bytes walk (all_named node_names bytes Nothing walk known) (quiet bytes walk none) in
     let legal = r.legal small (p.keyed sound).1 in
+    let deep = p.peak_is in
+    let shallow_tree : depth r.tree ≤ 64 = omega (arith, deep, high, low) in
+    let few = few_wholes bytes root r.tree r.denotes (table_wholes [] r.tree tt legal shallow_tree) in
     record {
       tree = r.tree;
-      accepted = accepted_by bytes r.tree v regions visits root r.denotes (legal, omega (arith, p.peak_is, high, low), few_wholes r.tree (denoted_has_no_wholes r.denotes)) (record { walk = walk; walked = walked; sound = sound_tables bytes walk sound });
+      accepted = accepted_by bytes r.tree v regions visits root r.denotes (legal, shallow_tree, omega (arith, few, counted)) (record { walk = walk; walked = walked; sound = sound_tables bytes walk sound });
     }

@@ -11,6 +11,7 @@ use Rattle.cabinet_text_grammar.specs.Path.{Step, key, place, inside, node_at, n
 use Rattle.cabinet_text_grammar.specs.Answering.{change, change_in, change_by}
 use Rattle.cabinet_documents.specs.Node.{node_shape, own_bytes}
 use Rattle.cabinet_documents.specs.Laws.{EditsInEitherOrder}
+use Rattle.cabinet_documents.proofs.Outside.{enters_kept}
 use Rattle.cabinet_documents.proofs.ByKey.{change_here, change_past, node_here, node_past}
 use Rattle.cabinet_documents.proofs.OwnWritten.{own_within}
 use Rattle.cabinet_documents.proofs.Apart.{own_bytes_apart_law}
@@ -146,6 +147,6 @@ edits_in_either_order_law bytes t path other l m start from a is_l is_m d e o p 
     record {
       same_bytes = writes_commute bytes start (own_bytes l) from (own_bytes m) room space (own_bytes_apart_law bytes t path other start (length (own_bytes l)) from (length (own_bytes m)) a o p differ);
       same_document = r.same_document;
-      first = record { old = d.old; there = r.other_stays ∙ d.there; fitting = d.fitting };
-      second = record { old = e.old; there = r.stays ∙ e.there; fitting = e.fitting };
+      first = record { old = d.old; there = r.other_stays ∙ d.there; outside = enters_kept t other m path ∙ d.outside; fitting = d.fitting };
+      second = record { old = e.old; there = r.stays ∙ e.there; outside = enters_kept t path l other ∙ e.outside; fitting = e.fitting };
     }

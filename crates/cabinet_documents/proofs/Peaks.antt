@@ -6,7 +6,8 @@ use Rattle.archive_forms_values.specs.ShapeLayout.Value.{Value, Values, count_va
 use Rattle.archive_forms_values.specs.ShapeLayout.Value.Value.{natural, integer, boolean, string, group, chosen, counted}
 use Rattle.archive_forms_values.specs.ShapeLayout.Value.Values.{no_values, more_values}
 use Rattle.archive_forms_values.specs.ShapeLayout.Shape.Shape.{text}
-use Rattle.archive_forms_values.specs.ShapeLayout.Shape.Pointee.{str}
+use Rattle.archive_forms_values.specs.ShapeLayout.Shape.Pointee.{sized, str}
+use Rattle.archive_forms_values.specs.ShapeLayout.Shape.{Pointee}
 use Rattle.archive_forms_values.specs.ShapeLayout.Content.{Part, Label, Item, content_of, made, members, weave, first_values, other_values}
 use Rattle.archive_forms_values.specs.ShapeLayout.Bytes.{word_at}
 use Rattle.archive_forms_values.specs.ShapeLayout.Content.Label.{same, second, whole, tagged, woven, total}
@@ -20,7 +21,7 @@ use Rattle.cabinet_documents.specs.Walk.WalkAll.{walk_none, walk_more}
 use Rattle.cabinet_documents.specs.Audit.{IsMapSound}
 use Rattle.cabinet_documents.proofs.Stops.{peak, peak_append, peak_joined, Each, each_append, each_front, each_joined, each_flat, flat}
 use Rattle.cabinet_documents.proofs.Heights.{height, heights, heights_split, heights_weave, KeysSuit, Keyed, AllKeyed, AreGroups, suited_split, keyed_joined, keyed_weave, keyed_woven}
-use Rattle.cabinet_documents.proofs.Places.{Place, node_here, shared_here, box_here, pair_here, tree_node, tree_child, buckets_here, numbers_here, entry_number, pairs_behind, text_behind, Spot, part_of, parts_at, entries_from, children_from, items_from, lifts, Passes, node_passes, box_passes, behind_passes, list_passes, text_passes, child_passes, table_passes, Pays, pays_truth, pays_number, pays_text, pays_shared, pays_option, pays_list, pays_ordered, pays_hashed, pays_kept, Follows, passes, pays, truth_is, number_is, text_is, behind_is, none_is, some_is, nodes_follow, empty_is, total_is, leaf_follows, inner_follows, no_child_is, entry_follows, no_items_is, items_follow, no_entries_is, entries_second, numbers_follow, entry_number_is, pairs_follow, pair_follows, Leads, leads_nowhere, leads_plain, leads_claimed, leads_counted, led}
+use Rattle.cabinet_documents.proofs.Places.{Place, node_here, shared_here, whole_here, node_behind, box_here, pair_here, tree_node, tree_child, buckets_here, numbers_here, entry_number, pairs_behind, text_behind, Spot, part_of, parts_at, entries_from, children_from, items_from, lifts, Passes, node_passes, box_passes, behind_passes, list_passes, text_passes, child_passes, table_passes, Pays, pays_truth, pays_number, pays_text, pays_shared, pays_option, pays_list, pays_ordered, pays_hashed, pays_kept, pays_whole, Follows, passes, pays, truth_is, number_is, text_is, behind_is, none_is, some_is, nodes_follow, empty_is, total_is, leaf_follows, inner_follows, no_child_is, entry_follows, no_items_is, items_follow, no_entries_is, entries_second, numbers_follow, entry_number_is, pairs_follow, pair_follows, Leads, leads_nowhere, leads_plain, leads_claimed, leads_counted, leads_whole, led}
 use Rattle.cabinet_documents.proofs.ByKey.{AreKeysDistinct}
 use Rattle.cabinet_documents.proofs.Containers.{lift, contains, is_plain, OwnKeyed, KeyedAt, IsFlat, GroupedAt, FoundApart, container_is, deeper, lift_is, plain_lift, plain_own, peak_stop, own_sound, own_keyed, behind_apart, AllOf, all_append, all_each, all_tagged, AllPlain, entries_plain, children_plain, IsNumber}
 use Rattle.cabinet_documents.proofs.TableSound.{IsPlainSound, PlainSounds, MapSounds, BucketsRead, TableRead, reads_none, reads_buckets, table_read, index_read, led_table, keys_count, found_distinct, numbered_distinct}
@@ -133,6 +134,7 @@ module _ (bytes : List ℕ) where
   pay_lift pays_ordered = refl
   pay_lift pays_hashed = refl
   pay_lift pays_kept = refl
+  pay_lift pays_whole = refl
 
   pay_own : {tag : ℕ} {j : Place} (v : Value) → Pays tag j → OwnKeyed j v ≡ KeysSuit tag (more_values v no_values)
   pay_own v pays_truth = refl
@@ -144,6 +146,7 @@ module _ (bytes : List ℕ) where
   pay_own v pays_ordered = refl
   pay_own v pays_hashed = refl
   pay_own v pays_kept = refl
+  pay_own v pays_whole = refl
 
   all_groups : (n level pos : ℕ) (rest : List Spot) {d : ℕ} {qs : List Spot} {vs : Values} {runs : List (List Stop)} → qs ≡ children_from n level pos ++ rest → AllPeaked bytes d qs vs runs → AreGroups (first_values n vs)
   all_groups zero level pos rest e ps = tt
@@ -402,18 +405,21 @@ module _ (bytes : List ℕ) where
         grouped = m.grouped;
       }
 
-  counted_made : (t len d : ℕ) {vs : Values} {v : Value} {runs : List (List Stop)}
-      → AllPeaked bytes (d + 0) (record { place = text_behind len; pos = t } ∷ []) vs runs → value_of (counting false t str len) vs ≡ Some v → Made shared_here d v runs
-  counted_made t len d {vs = vs} {v = v} ps m =
-      let o = one (text_behind len) t refl ps in
-      let n : value_of (counting false t str len) (more_values o.value no_values) ≡ Some v = subst (λ x. value_of (counting false t str len) x ≡ Some v) o.values_are m in
+  -- a counted pointer, at a place of which the keys say nothing
+  counted_made : (k j : Place) (t : ℕ) (q : Pointee) (len d : ℕ) {vs : Values} {v : Value} {runs : List (List Stop)}
+      → is_plain j ≡ true → ((x : Value) → GroupedAt bytes k x)
+      → AllPeaked bytes (d + lift k) (record { place = j; pos = t } ∷ []) vs runs → value_of (counting false t q len) vs ≡ Some v → Made k d v runs
+  counted_made k j t q len d {vs = vs} {v = v} free group_is ps m =
+      let o = one j t refl ps in
+      let n : value_of (counting false t q len) (more_values o.value no_values) ≡ Some v = subst (λ x. value_of (counting false t q len) x ≡ Some v) o.values_are m in
       let is : v ≡ counted t o.value = cc in
       let h : height v ≡ height o.value = ap height is in
+      let low = plain_lift j free in
       record {
-        peak_is = o.peak_is ∙ omega (arith, h);
-        sound = λ x own. o.sound (tt, subst Keyed is x);
+        peak_is = o.peak_is ∙ omega (arith, h, low);
+        sound = λ x own. o.sound (plain_own j o.value free, subst Keyed is x);
         keyed = λ x. subst Keyed (sym is) (o.keyed x).1;
-        grouped = tt;
+        grouped = group_is v;
       }
 
   peaked_case : (k : Place) (pos d : ℕ) {p : Part} {v : Value} {vs : Values} {walk : List Stop} {inner : List (List Stop)}
@@ -437,7 +443,10 @@ module _ (bytes : List ℕ) where
       (λ below. follow k d fs below (subst (λ x. value_of x vs ≡ Some v) c m))
   peaked_case shared_here pos d {v = v} {vs = vs} {inner = inner} is e m on (leads_counted {t = t} {len = len} f) =
       let c = ap (content_of node_names bytes) is ∙ f in
-      peaked_by shared_here pos d is e tt (on (record { place = text_behind len; pos = t } ∷ []) (ap parts_of c)) (λ below. counted_made t len d below (subst (λ x. value_of x vs ≡ Some v) c m))
+      peaked_by shared_here pos d is e tt (on (record { place = text_behind len; pos = t } ∷ []) (ap parts_of c)) (λ below. counted_made shared_here (text_behind len) t str len d refl (λ x. tt) below (subst (λ x. value_of x vs ≡ Some v) c m))
+  peaked_case whole_here pos d {v = v} {vs = vs} {inner = inner} is e m on (leads_whole {t = t} f) =
+      let c = ap (content_of node_names bytes) is ∙ f in
+      peaked_by whole_here pos d is e tt (on (record { place = node_behind; pos = t } ∷ []) (ap parts_of c)) (λ below. counted_made whole_here node_behind t (sized node_shape) 1 d refl (λ x. tt) below (subst (λ x. value_of x vs ≡ Some v) c m))
 
   mutual
     -- the walk of a place goes as deep as its value is high, and its maps are sound where the value's are

@@ -17,13 +17,13 @@ use Rattle.archive_forms_values.specs.ShapeLayout.Content.Content.{illegal, plai
 use Rattle.archive_forms_values.specs.ShapeCanonical.Canonical.{AreBytes}
 use Rattle.archive_forms_values.proofs.ArchiveShape.Words.{word_bound}
 use Rattle.archive_forms_values.proofs.ShapeLayout.Windows.{word_within}
-use Rattle.cabinet_documents.specs.Node.{node_shape, pair_shape, node_names, payloads}
+use Rattle.cabinet_documents.specs.Node.{node_shape, pair_shape, node_names, payloads, whole_shape}
 use Rattle.cabinet_documents.specs.Table.{full_from}
 
 -- ---- places
 
 pub data Place : Type 0 where
-  node_here payload_here truth_here number_here text_here shared_here option_here box_here list_here ordered_here table_here index_here pair_here : Place
+  node_here payload_here truth_here number_here text_here shared_here option_here box_here list_here ordered_here table_here index_here whole_here pair_here : Place
   -- of a search tree: a node and a pointer to a child, each at a level, and the value of an entry whose key is at a
   -- position
   tree_node tree_child entry_here : ℕ → Place
@@ -54,6 +54,7 @@ part_of list_here pos = at pos (vector node_shape)
 part_of ordered_here pos = at pos (tree 5 text node_shape)
 part_of table_here pos = at pos (table pair_shape)
 part_of index_here pos = at pos (index_map text node_shape)
+part_of whole_here pos = at pos whole_shape
 part_of pair_here pos = at pos pair_shape
 part_of (tree_node level) pos = node level 5 text node_shape pos
 part_of (tree_child level) pos = child level 5 text node_shape pos
@@ -166,13 +167,14 @@ pub data Passes (bytes : List ℕ) : Place → Place → Type 0 where
   child_passes : {level : ℕ} → Passes bytes (tree_child level) (tree_node level)
   table_passes : {target len cap : ℕ} → (AreBytes bytes → len < 2 ^ 64) → Passes bytes table_here (buckets_here target len cap)
 
--- a tag's node is a container where its payload is an option, a list or a map
+-- a tag's node is a container where its payload is an option, a list, a map or a whole
 abbrev pub lifts : ℕ → ℕ
 lifts (suc (suc (suc (suc zero)))) = 1
 lifts (suc (suc (suc (suc (suc zero))))) = 1
 lifts (suc (suc (suc (suc (suc (suc zero)))))) = 1
 lifts (suc (suc (suc (suc (suc (suc (suc zero))))))) = 1
 lifts (suc (suc (suc (suc (suc (suc (suc (suc zero)))))))) = 1
+lifts (suc (suc (suc (suc (suc (suc (suc (suc (suc zero))))))))) = 1
 lifts n = 0
 
 -- a tag and its payload
@@ -186,6 +188,7 @@ pub data Pays : ℕ → Place → Type 0 where
   pays_ordered : Pays 6 ordered_here
   pays_hashed : Pays 7 table_here
   pays_kept : Pays 8 index_here
+  pays_whole : Pays 9 whole_here
 
 -- how the value at a place is made, of the values at others
 pub data Follows (bytes : List ℕ) : Place → Label → List Spot → Type 0 where
@@ -233,6 +236,8 @@ pub data Leads (bytes : List ℕ) : Place → Content → Type 0 where
   leads_claimed : {k : Place} {c : Content} {l : Label} {qs : List Spot} {start size align : ℕ} → c ≡ claimed (record { start = start; size = size; align = align }) l (parts_at qs) → Follows bytes k l qs → is_behind k ≡ true → Leads bytes k c
   -- to a text that may have been visited before
   leads_counted : {c : Content} {t len : ℕ} → c ≡ counting false t str len → Leads bytes shared_here c
+  -- to a node that may have been
+  leads_whole : {c : Content} {t : ℕ} → c ≡ counting false t (sized node_shape) 1 → Leads bytes whole_here c
 
 -- ---- what each says
 
@@ -254,7 +259,8 @@ module _ (bytes : List ℕ) where
   payload_led pos (suc (suc (suc (suc (suc (suc zero)))))) = leads_plain refl (pays pays_ordered refl refl)
   payload_led pos (suc (suc (suc (suc (suc (suc (suc zero))))))) = leads_plain refl (pays pays_hashed refl refl)
   payload_led pos (suc (suc (suc (suc (suc (suc (suc (suc zero)))))))) = leads_plain refl (pays pays_kept refl refl)
-  payload_led pos (suc (suc (suc (suc (suc (suc (suc (suc (suc n))))))))) = leads_nowhere refl
+  payload_led pos (suc (suc (suc (suc (suc (suc (suc (suc (suc zero))))))))) = leads_plain refl (pays pays_whole refl refl)
+  payload_led pos (suc (suc (suc (suc (suc (suc (suc (suc (suc (suc n)))))))))) = leads_nowhere refl
 
   truth_led : (n : ℕ) (b : Bool) → Leads bytes truth_here (choose b (plain (leaf (boolean (n == 1))) []) illegal)
   unfolding choose
@@ -273,6 +279,11 @@ module _ (bytes : List ℕ) where
   unfolding following
   shared_led None len = leads_nowhere refl
   shared_led (Some t) len = leads_counted refl
+
+  whole_led : (o : Option ℕ) → Leads bytes whole_here (following o (λ t. counting false t (sized node_shape) 1))
+  unfolding following
+  whole_led None = leads_nowhere refl
+  whole_led (Some t) = leads_whole refl
 
   option_led : (p : ℕ) (none some : Bool)
       → Leads bytes option_here (choose none (plain (tagged 0) []) (choose some (plain (tagged 1) (at p (box (sized node_shape)) ∷ [])) illegal))
@@ -416,6 +427,7 @@ module _ (bytes : List ℕ) where
       let controls = window bytes target (control_count cap) in
       numbers_led target len cap (nat_le (cap * 4) target) (wraps cap controls 0 controls) (count_by (λ c. nat_lt c 128) (take cap controls) == len) refl
   led (entry_number limit) pos = entry_number_led (word_at (window bytes pos 4) 0) limit (nat_lt (word_at (window bytes pos 4) 0) limit) refl
+  led whole_here pos = whole_led (target_from pos (word_at (window bytes pos 4) 0))
   led pair_here pos = leads_plain {qs = record { place = text_here; pos = pos + 0 } ∷ (record { place = node_here; pos = pos + 8 } ∷ [])} refl (pair_follows (pos + 0) (pos + 8) refl refl)
   led node_behind pos = leads_claimed {qs = record { place = node_here; pos = pos } ∷ []} refl (passes behind_passes refl refl) refl
   led (nodes_behind len) pos = leads_claimed {qs = nodes_from pos len} (ap (claimed (record { start = pos; size = len * 24; align = 8 }) whole) (nodes_are pos len)) (nodes_follow pos refl refl) refl

@@ -2,12 +2,12 @@
 use Rattle.std.proofs.Common.{◌≡◌, ℕ, suc, ◌+◌, ◌*◌, ◌<◌, ◌≤◌, true, false, List, [], ◌∷◌, length, map as list_map, Some, refl, sym, ap, ap₂, subst, ◌∙◌, arith, ⊎_elim}
 use Rattle.std.specs.Int.{w64}
 use Rattle.std.specs.List.{AllByRecursion}
-use Rattle.std.proofs.lemmas.Bool.{false≢true, cases_lt}
+use Rattle.std.proofs.lemmas.Bool.{cases_lt}
 use Rattle.std.proofs.lemmas.List.{nil_from_length, length-map}
 use Rattle.archive_forms_values.specs.ShapeLayout.Bytes.{align_up}
 use Rattle.archive_forms_values.specs.ShapeLayout.Shape.{Shape, size_of, align_of}
 use Rattle.archive_forms_values.specs.ShapeLayout.Shape.Shape.{number, truth, text, option, choice, vector, tree, table, index_map, shared as shared_shape}
-use Rattle.archive_forms_values.specs.ShapeLayout.Shape.Pointee.{str}
+use Rattle.archive_forms_values.specs.ShapeLayout.Shape.Pointee.{sized, str}
 use Rattle.archive_forms_values.specs.ShapeLayout.Value.{Value, Values, count_values}
 use Rattle.archive_forms_values.specs.ShapeLayout.Value.Value.{integer, boolean, string, group, chosen, counted}
 use Rattle.archive_forms_values.specs.ShapeLayout.Value.Values.{no_values, more_values}
@@ -27,15 +27,13 @@ use Rattle.archive_hash_writing.proofs.Planned.{table_target, count_listed, Item
 use Rattle.cabinet_text_grammar.specs.Keys.{MapKind, ordered, hashed, kept}
 use Rattle.cabinet_text_grammar.specs.Tree as document
 use Rattle.cabinet_text_grammar.specs.Tree.{Tree, Trees, Pairs, leaf, shared, nothing, just, list, map, whole, no_trees, more_trees, no_pairs, more_pairs, IsLegal, AreLegal, ArePairs}
-use Rattle.cabinet_text_grammar.specs.Wholes.{AreNumbered, ArePairsNumbered}
-use Rattle.cabinet_documents.specs.Node.{node_shape, node_names, pair_shape, payloads}
+use Rattle.cabinet_documents.specs.Node.{node_shape, node_names, pair_shape, whole_shape, payloads}
 use Rattle.cabinet_documents.specs.Denotes.{tagged_value, pair_value}
-use Rattle.cabinet_documents.specs.NoWholes.{HasNoWholes}
 use Rattle.cabinet_documents.specs.Spelling.{boxed_shape, trees_in, pairs_in}
 use Rattle.cabinet_documents.proofs.FirstFit.{by_first_fit, listed_mapped}
 use Rattle.cabinet_documents.proofs.PlacedPairs.{pair_hashes}
 use Rattle.cabinet_documents.proofs.Values.{value_of, values_of, values_of_pairs, entry_value, pairs_are}
-use Rattle.cabinet_documents.proofs.SpellingDenoted.{tagged, simply_tagged, shared_text, grouped, paired}
+use Rattle.cabinet_documents.proofs.SpellingDenoted.{tagged, simply_tagged, counted_value, shared_text, grouped, paired}
 
 -- the plan of a text, inline or out of line
 pub data TextPlan (t : List ℕ) (p : Plan) : Type 0 where
@@ -47,6 +45,10 @@ text_plan t = counts str (string t) (length t ∷ []) (whole_target (length t) 1
 
 abbrev pub box_plan : Plan → Plan
 box_plan p = leads [] (whole_target (size_of node_shape) (align_of node_shape)) p
+
+-- of a whole with this value, and the plan of what is in it
+abbrev pub whole_plan : Value → Plan → Plan
+whole_plan v p = counts (sized node_shape) v [] (whole_target (size_of node_shape) (align_of node_shape)) p
 
 -- of a pointer to so many values, with numbers beside it
 abbrev pub slice_plan : Shape → List ℕ → ℕ → Plans → Plan
@@ -165,6 +167,17 @@ module _ (fit : Fit) where
       let same : s ≡ t = cc in
       let size : n ≡ length t = n_is ∙ ap length same in
       ap₂ (λ (x : Value) (k : ℕ). counts str x (k ∷ []) (whole_target k 1) flat) (u_is ∙ ap string same) size
+
+  pub record WholePlan (u : Value) (v : Value) (p : Plan) : Type 0 where
+    pub inner : Plan
+    pub planned : Planned node_shape v inner
+    pub is : p ≡ whole_plan u inner
+
+  pub whole_planned : (pos : ℕ) (u v w : Value) (p : Plan) → w ≡ counted pos v → erased v ≡ u → Planned whole_shape w p → WholePlan u v p
+  whole_planned pos u v w p is same (plan_flat f) = elim f [ ]
+  whole_planned pos u v w p is same (plan_shared {pos = pos'} {v = v'} {u = u'} (plan_sized {p = q} h) e) =
+      let inside : v' ≡ v = cc in
+      record { inner = q; planned = subst (λ x. Planned node_shape x q) inside h; is = ap (λ x. whole_plan x q) (e ∙ ap erased inside ∙ same) }
 
   pub none_planned : (v : Value) (p : Plan) → v ≡ chosen 0 no_values → Planned (option boxed_shape) v p → p ≡ flat
   none_planned v p is (plan_flat f) = elim f [ ]
@@ -396,54 +409,58 @@ module _ (fit : Fit) where
 
   module _ (fills : FillsMaps) where
     mutual
-      pub has_plan : (t : Tree) (v : Value) → IsLegal t → HasNoWholes t → erased v ≡ value_of t → (p : Plan) × Planned node_shape v p
-      has_plan (leaf (document.truth b)) v legal none e = let x = tagged 0 (boolean b) v e in plan_node 0 truth x.inner v flat x.is refl (plan_flat truth_is_flat)
-      has_plan (leaf (document.number n)) v legal none e = let x = tagged 1 (integer n) v e in plan_node 1 (number w64 true) x.inner v flat x.is refl (plan_flat number_is_flat)
-      has_plan (leaf (document.text t)) v legal none e =
+      pub has_plan : (t : Tree) (v : Value) → IsLegal t → erased v ≡ value_of t → (p : Plan) × Planned node_shape v p
+      has_plan (leaf (document.truth b)) v legal e = let x = tagged 0 (boolean b) v e in plan_node 0 truth x.inner v flat x.is refl (plan_flat truth_is_flat)
+      has_plan (leaf (document.number n)) v legal e = let x = tagged 1 (integer n) v e in plan_node 1 (number w64 true) x.inner v flat x.is refl (plan_flat number_is_flat)
+      has_plan (leaf (document.text t)) v legal e =
           let p = text_has_plan t in
           plan_node 2 text (string t) v p.0 (simply_tagged 2 (string t) v tt e) refl p.1
-      has_plan (shared t) v legal none e =
+      has_plan (shared t) v legal e =
           let x = tagged 3 (counted 0 (string t)) v e in
           let y = shared_text t x.inner x.same in
           plan_node 3 (shared_shape false str) (counted y.pos (string t)) v (text_plan t) (x.is ∙ ap (tagged_value 3) y.is) refl (plan_shared (plan_str refl) refl)
-      has_plan nothing v legal none e = plan_node 4 (option boxed_shape) (chosen 0 no_values) v flat (simply_tagged 4 (chosen 0 no_values) v tt e) refl plan_none
-      has_plan (just t) v legal none e =
+      has_plan nothing v legal e = plan_node 4 (option boxed_shape) (chosen 0 no_values) v flat (simply_tagged 4 (chosen 0 no_values) v tt e) refl plan_none
+      has_plan (just t) v legal e =
           let x = tagged 4 (tagged_value 1 (value_of t)) v e in
           let y = tagged 1 (value_of t) x.inner x.same in
-          let p = has_plan t y.inner legal none y.same in
+          let p = has_plan t y.inner legal y.same in
           plan_node 4 (option boxed_shape) (tagged_value 1 y.inner) v (one_plan (align_up 1 (align_of boxed_shape)) (box_plan p.0)) (x.is ∙ ap (tagged_value 4) y.is) refl
           (plan_some (plans_at (plan_box (plan_sized p.1)) plans_none))
-      has_plan (list ts) v legal none e =
+      has_plan (list ts) v legal e =
           let x = tagged 5 (group (values_of ts)) v e in
           let y = grouped (values_of ts) x.inner x.same in
-          let ps = all_have_plans node_shape value_of (trees_in ts) y.inner 0 (ap listed_in y.same ∙ values_listed ts) (trees_have_plans ts legal.0 none) in
+          let ps = all_have_plans node_shape value_of (trees_in ts) y.inner 0 (ap listed_in y.same ∙ values_listed ts) (trees_have_plans ts legal.0) in
           plan_node 5 (vector node_shape) (group y.inner) v (slice_plan node_shape (count_values y.inner ∷ []) (count_values y.inner) ps.0) (x.is ∙ ap (tagged_value 5) y.is) refl (plan_vector (plan_slice refl ps.1))
-      has_plan (map ordered ps) v legal none e =
+      has_plan (map ordered ps) v legal e =
           let x = tagged 6 (group (values_of_pairs ps)) v e in
           let y = grouped (values_of_pairs ps) x.inner x.same in
-          map_has_plan (pairs_in ps) y.inner v (x.is ∙ ap (tagged_value 6) y.is) (y.same ∙ entry_values fit ps) (pairs_have_plans ordered [] ps legal.0 none)
-      has_plan (map hashed ps) v legal none e =
+          map_has_plan (pairs_in ps) y.inner v (x.is ∙ ap (tagged_value 6) y.is) (y.same ∙ entry_values fit ps) (pairs_have_plans ordered [] ps legal.0)
+      has_plan (map hashed ps) v legal e =
           let vs = by_first_fit (values_of_pairs ps) in
           let x = tagged 7 (group vs) v e in
           let y = grouped vs x.inner x.same in
-          hashed_has_plan (pairs_in ps) vs y.inner v (x.is ∙ ap (tagged_value 7) y.is) y.same (fills.hashed_maps ps legal.0) (pairs_have_plans hashed [] ps legal.0 none)
-      has_plan (map kept ps) v legal none e =
+          hashed_has_plan (pairs_in ps) vs y.inner v (x.is ∙ ap (tagged_value 7) y.is) y.same (fills.hashed_maps ps legal.0) (pairs_have_plans hashed [] ps legal.0)
+      has_plan (map kept ps) v legal e =
           let x = tagged 8 (group (values_of_pairs ps)) v e in
           let y = grouped (values_of_pairs ps) x.inner x.same in
-          kept_has_plan (pairs_in ps) y.inner v (x.is ∙ ap (tagged_value 8) y.is) (ap listed_in y.same ∙ pairs_listed ps) (pairs_have_plans kept [] ps legal.0 none)
-      has_plan (whole t) v legal none e = absurd (false≢true none)
+          kept_has_plan (pairs_in ps) y.inner v (x.is ∙ ap (tagged_value 8) y.is) (ap listed_in y.same ∙ pairs_listed ps) (pairs_have_plans kept [] ps legal.0)
+      has_plan (whole t) v legal e =
+          let x = tagged 9 (counted 0 (value_of t)) v e in
+          let y = counted_value (value_of t) x.inner x.same in
+          let p = has_plan t y.inner legal y.same in
+          plan_node 9 whole_shape (counted y.pos y.inner) v (whole_plan (value_of t) p.0) (x.is ∙ ap (tagged_value 9) y.is) refl (plan_shared (plan_sized p.1) (sym y.same))
 
-      pairs_have_plans : (kind : MapKind) (keys : List (List ℕ)) (ps : Pairs) → ArePairs kind keys ps → ArePairsNumbered [] ps → EachIs (IsPlanned fit node_names 5 text node_shape entry_value) (pairs_in ps)
-      pairs_have_plans kind keys no_pairs legal none = tt
-      pairs_have_plans kind keys (more_pairs k t ps) legal none = (
+      pairs_have_plans : (kind : MapKind) (keys : List (List ℕ)) (ps : Pairs) → ArePairs kind keys ps → EachIs (IsPlanned fit node_names 5 text node_shape entry_value) (pairs_in ps)
+      pairs_have_plans kind keys no_pairs legal = tt
+      pairs_have_plans kind keys (more_pairs k t ps) legal = (
         λ e same.
             let x = paired k (value_of t) e same in
             let p = text_has_plan k in
-            let q = has_plan t x.inner legal.1.0 none.0 x.same in
+            let q = has_plan t x.inner legal.1.0 x.same in
             record { key = string k; value = x.inner; key_plan = p.0; value_plan = q.0; is = x.is; key_planned = p.1; value_planned = q.1 },
-        pairs_have_plans kind (k ∷ keys) ps legal.1.1 none.1,
+        pairs_have_plans kind (k ∷ keys) ps legal.1.1,
       )
 
-      trees_have_plans : (ts : Trees) → AreLegal ts → AreNumbered [] ts → AllByRecursion (IsItemPlanned fit node_names node_shape value_of) (trees_in ts)
-      trees_have_plans no_trees legal none = tt
-      trees_have_plans (more_trees t ts) legal none = (λ v e. has_plan t v legal.0 none.0 e, trees_have_plans ts legal.1 none.1)
+      trees_have_plans : (ts : Trees) → AreLegal ts → AllByRecursion (IsItemPlanned fit node_names node_shape value_of) (trees_in ts)
+      trees_have_plans no_trees legal = tt
+      trees_have_plans (more_trees t ts) legal = (λ v e. has_plan t v legal.0 e, trees_have_plans ts legal.1)

@@ -1,8 +1,7 @@
--- A value that is that of a document without wholes, except for the positions of shared texts, denotes it.
+-- A value that is that of a document, except for the positions of shared values, denotes it.
 use Rattle.std.proofs.Common.{◌≡◌, ℕ, List, [], ◌∷◌, length, refl, sym, ap, ap₂, subst, ◌∙◌, arith}
 use Rattle.std.specs.Prelude.{⊤}
 use Rattle.std.specs.List.{AllByRecursion}
-use Rattle.std.proofs.lemmas.Bool.{false≢true}
 use Rattle.archive_forms_values.specs.ShapeLayout.Value.{Value, Values, count_values}
 use Rattle.archive_forms_values.specs.ShapeLayout.Value.Value.{natural, integer, boolean, string, group, chosen, counted, back}
 use Rattle.archive_forms_values.specs.ShapeLayout.Value.Values.{no_values, more_values}
@@ -14,22 +13,21 @@ use Rattle.archive_hash_writing.proofs.Placed.{placed_each}
 use Rattle.cabinet_text_grammar.specs.Keys.{MapKind, ordered, hashed, kept}
 use Rattle.cabinet_text_grammar.specs.Tree as document
 use Rattle.cabinet_text_grammar.specs.Tree.{Tree, Trees, Pairs, leaf, shared, nothing, just, list, map, whole, no_trees, more_trees, no_pairs, more_pairs, IsLegal, AreLegal, ArePairs}
-use Rattle.cabinet_text_grammar.specs.Wholes.{AreNumbered, ArePairsNumbered}
 use Rattle.cabinet_documents.specs.Denotes.{tagged_value, pair_value, Denotes, DenoteAll, DenotePairs}
-use Rattle.cabinet_documents.specs.Denotes.Denotes.{denotes_truth, denotes_number, denotes_text, denotes_shared, denotes_nothing, denotes_some, denotes_list, denotes_ordered, denotes_hashed, denotes_kept}
+use Rattle.cabinet_documents.specs.Denotes.Denotes.{denotes_truth, denotes_number, denotes_text, denotes_shared, denotes_nothing, denotes_some, denotes_list, denotes_ordered, denotes_hashed, denotes_kept, denotes_whole}
 use Rattle.cabinet_documents.specs.Denotes.DenoteAll.{denote_none, denote_more}
 use Rattle.cabinet_documents.specs.Denotes.DenotePairs.{denote_no_pairs, denote_pair}
 use Rattle.cabinet_documents.specs.Fitted.{IsFitted, AreFitted, ArePairsFitted, AreFirstFit}
-use Rattle.cabinet_documents.specs.Fitted.IsFitted.{leaf_is_fitted, nothing_is_fitted, some_is_fitted, list_is_fitted, ordered_is_fitted, hashed_is_fitted, kept_is_fitted}
+use Rattle.cabinet_documents.specs.Fitted.IsFitted.{leaf_is_fitted, nothing_is_fitted, some_is_fitted, list_is_fitted, ordered_is_fitted, hashed_is_fitted, kept_is_fitted, whole_is_fitted}
 use Rattle.cabinet_documents.specs.Fitted.AreFitted.{none_are_fitted, more_are_fitted}
 use Rattle.cabinet_documents.specs.Fitted.ArePairsFitted.{no_pairs_are_fitted, more_pairs_are_fitted}
-use Rattle.cabinet_documents.specs.NoWholes.{HasNoWholes}
 use Rattle.cabinet_documents.specs.Spelling.{node_value, pairs_in}
 use Rattle.cabinet_documents.specs.SpellingLaws.{ValueDenotes}
 use Rattle.cabinet_documents.proofs.ByKey.{pair_keys}
 use Rattle.cabinet_documents.proofs.FirstFit.{by_first_fit}
 use Rattle.cabinet_documents.proofs.PlacedPairs.{pairs_of, pairs_of_in, pair_hashes, placed_pairs, arranged_placed, first_fit_keys}
-use Rattle.cabinet_documents.proofs.Values.{value_of, values_of, values_of_pairs, first_fit_pairs, node_agrees}
+use Rattle.cabinet_documents.proofs.Values.{value_of, values_of, values_of_pairs, first_fit_pairs, node_value_is}
+use Rattle.cabinet_documents.proofs.Denoted.{one_tree}
 
 -- ---- what is known of a value from what is left of it without positions
 
@@ -72,19 +70,29 @@ tagged tag u (back t) e = absurd (cc)
 pub simply_tagged : (tag : ℕ) (u v : Value) → IsSimple u → erased v ≡ tagged_value tag u → v ≡ tagged_value tag u
 simply_tagged tag u v s e = let t = tagged tag u v e in t.is ∙ ap (tagged_value tag) (unchanged t.inner u s t.same)
 
+-- a counted value, wherever it lies
+pub record Counted (u v : Value) : Type 0 where
+  pub pos : ℕ
+  pub inner : Value
+  pub is : v ≡ counted pos inner
+  pub same : erased inner ≡ u
+
+pub counted_value : (u v : Value) → erased v ≡ counted 0 u → Counted u v
+counted_value u (natural n) e = absurd (cc)
+counted_value u (integer z) e = absurd (cc)
+counted_value u (boolean b) e = absurd (cc)
+counted_value u (string bs) e = absurd (cc)
+counted_value u (group vs) e = absurd (cc)
+counted_value u (chosen t vs) e = absurd (cc)
+counted_value u (counted t v) e = record { pos = t; inner = v; is = refl; same = cc }
+counted_value u (back t) e = absurd (cc)
+
 pub record Shared (s : List ℕ) (v : Value) : Type 0 where
   pub pos : ℕ
   pub is : v ≡ counted pos (string s)
 
 pub shared_text : (s : List ℕ) (v : Value) → erased v ≡ counted 0 (string s) → Shared s v
-shared_text s (natural n) e = absurd (cc)
-shared_text s (integer z) e = absurd (cc)
-shared_text s (boolean b) e = absurd (cc)
-shared_text s (string bs) e = absurd (cc)
-shared_text s (group vs) e = absurd (cc)
-shared_text s (chosen t vs) e = absurd (cc)
-shared_text s (counted t v) e = let same : erased v ≡ string s = cc in record { pos = t; is = ap (counted t) (unchanged v (string s) tt same) }
-shared_text s (back t) e = absurd (cc)
+shared_text s v e = let c = counted_value (string s) v e in record { pos = c.pos; is = c.is ∙ ap (counted c.pos) (unchanged c.inner (string s) tt c.same) }
 
 pub record Grouped (us : Values) (v : Value) : Type 0 where
   pub inner : Values
@@ -134,57 +142,60 @@ pairs_denoted (x ∷ xs) (more_values v vs) h e =
     denote_pair (ap (λ z. more_values z vs) p.is) refl (h.0 p.inner p.same) (pairs_denoted xs vs h.1 rest)
 
 mutual
-  pub denoted : (t : Tree) (v : Value) → IsLegal t → HasNoWholes t → erased v ≡ value_of t → Denotes v t
-  denoted (leaf (document.truth b)) v l none e = denotes_truth (simply_tagged 0 (boolean b) v tt e) refl
-  denoted (leaf (document.number n)) v l none e = denotes_number (simply_tagged 1 (integer n) v tt e) refl
-  denoted (leaf (document.text s)) v l none e = denotes_text (simply_tagged 2 (string s) v tt e) refl
-  denoted (shared s) v l none e =
+  pub denoted : (t : Tree) (v : Value) → IsLegal t → erased v ≡ value_of t → Denotes v t
+  denoted (leaf (document.truth b)) v l e = denotes_truth (simply_tagged 0 (boolean b) v tt e) refl
+  denoted (leaf (document.number n)) v l e = denotes_number (simply_tagged 1 (integer n) v tt e) refl
+  denoted (leaf (document.text s)) v l e = denotes_text (simply_tagged 2 (string s) v tt e) refl
+  denoted (shared s) v l e =
       let p = tagged 3 (counted 0 (string s)) v e in
       let x = shared_text s p.inner p.same in
       denotes_shared (p.is ∙ ap (tagged_value 3) x.is) refl
-  denoted nothing v l none e = denotes_nothing (simply_tagged 4 (chosen 0 no_values) v tt e) refl
-  denoted (just t) v l none e =
+  denoted nothing v l e = denotes_nothing (simply_tagged 4 (chosen 0 no_values) v tt e) refl
+  denoted (just t) v l e =
       let p = tagged 4 (tagged_value 1 (value_of t)) v e in
       let x = tagged 1 (value_of t) p.inner p.same in
-      denotes_some (p.is ∙ ap (tagged_value 4) x.is) refl (denoted t x.inner l none x.same)
-  denoted (list ts) v l none e =
+      denotes_some (p.is ∙ ap (tagged_value 4) x.is) refl (denoted t x.inner l x.same)
+  denoted (list ts) v l e =
       let p = tagged 5 (group (values_of ts)) v e in
       let x = grouped (values_of ts) p.inner p.same in
-      denotes_list (p.is ∙ ap (tagged_value 5) x.is) refl (all_denoted ts x.inner l.0 none x.same)
-  denoted (map ordered ps) v l none e =
+      denotes_list (p.is ∙ ap (tagged_value 5) x.is) refl (all_denoted ts x.inner l.0 x.same)
+  denoted (map ordered ps) v l e =
       let p = tagged 6 (group (values_of_pairs ps)) v e in
       let x = grouped (values_of_pairs ps) p.inner p.same in
-      let each = each_denotable ordered [] ps l.0 none in
+      let each = each_denotable ordered [] ps l.0 in
       let same = pairs_of_in ps in
       denotes_ordered (p.is ∙ ap (tagged_value 6) x.is) (ap (map ordered) (sym same)) (pairs_denoted (pairs_in ps) x.inner each (x.same ∙ ap values_of_pairs (sym same)))
-  denoted (map hashed ps) v l none e =
+  denoted (map hashed ps) v l e =
       let p = tagged 7 (group (by_first_fit (values_of_pairs ps))) v e in
       let x = grouped (by_first_fit (values_of_pairs ps)) p.inner p.same in
       let xs = pairs_in ps in
       let hashes = pair_hashes xs in
-      let each = placed_each IsDenotable (capacity_of 7 8 hashes xs) (places_of 7 8 hashes xs) xs (each_denotable hashed [] ps l.0 none) in
+      let each = placed_each IsDenotable (capacity_of 7 8 hashes xs) (places_of 7 8 hashes xs) xs (each_denotable hashed [] ps l.0) in
       denotes_hashed (p.is ∙ ap (tagged_value 7) x.is) (ap (map hashed) (sym (arranged_placed ps l.0))) (pairs_denoted (by_place 7 8 hashes xs) x.inner each (x.same ∙ first_fit_pairs ps))
-  denoted (map kept ps) v l none e =
+  denoted (map kept ps) v l e =
       let p = tagged 8 (group (values_of_pairs ps)) v e in
       let x = grouped (values_of_pairs ps) p.inner p.same in
       let same = pairs_of_in ps in
-      denotes_kept (p.is ∙ ap (tagged_value 8) x.is) (ap (map kept) (sym same)) (pairs_denoted (pairs_in ps) x.inner (each_denotable kept [] ps l.0 none) (x.same ∙ ap values_of_pairs (sym same)))
-  denoted (whole t) v l none e = absurd (false≢true none)
+      denotes_kept (p.is ∙ ap (tagged_value 8) x.is) (ap (map kept) (sym same)) (pairs_denoted (pairs_in ps) x.inner (each_denotable kept [] ps l.0) (x.same ∙ ap values_of_pairs (sym same)))
+  denoted (whole t) v l e =
+      let p = tagged 9 (counted 0 (value_of t)) v e in
+      let x = counted_value (value_of t) p.inner p.same in
+      denotes_whole (p.is ∙ ap (tagged_value 9) x.is) refl (denoted t x.inner l x.same)
 
-  all_denoted : (ts : Trees) (vs : Values) → AreLegal ts → AreNumbered [] ts → all_erased vs ≡ values_of ts → DenoteAll vs ts
-  all_denoted no_trees no_values l none e = denote_none refl refl
-  all_denoted no_trees (more_values v vs) l none e = absurd (cc)
-  all_denoted (more_trees t ts) no_values l none e = absurd (cc)
-  all_denoted (more_trees t ts) (more_values v vs) l none e =
+  all_denoted : (ts : Trees) (vs : Values) → AreLegal ts → all_erased vs ≡ values_of ts → DenoteAll vs ts
+  all_denoted no_trees no_values l e = denote_none refl refl
+  all_denoted no_trees (more_values v vs) l e = absurd (cc)
+  all_denoted (more_trees t ts) no_values l e = absurd (cc)
+  all_denoted (more_trees t ts) (more_values v vs) l e =
       let first : erased v ≡ value_of t = cc in
       let rest : all_erased vs ≡ values_of ts = cc in
-      denote_more refl refl (denoted t v l.0 none.0 first) (all_denoted ts vs l.1 none.1 rest)
+      denote_more refl refl (denoted t v l.0 first) (all_denoted ts vs l.1 rest)
 
-  each_denotable : (kind : MapKind) (before : List (List ℕ)) (ps : Pairs) → ArePairs kind before ps → ArePairsNumbered [] ps → AllByRecursion IsDenotable (pairs_in ps)
-  each_denotable kind before no_pairs l none = tt
-  each_denotable kind before (more_pairs k t ps) l none = (λ v e. denoted t v l.1.0 none.0 e, each_denotable kind (k ∷ before) ps l.1.1 none.1)
+  each_denotable : (kind : MapKind) (before : List (List ℕ)) (ps : Pairs) → ArePairs kind before ps → AllByRecursion IsDenotable (pairs_in ps)
+  each_denotable kind before no_pairs l = tt
+  each_denotable kind before (more_pairs k t ps) l = (λ v e. denoted t v l.1.0 e, each_denotable kind (k ∷ before) ps l.1.1)
 
--- ---- the value of a document without wholes is in the order of first fit, and has no positions
+-- ---- the value of a document is in the order of first fit, and has no positions
 
 abbrev IsSettledPair : List ℕ × Tree → Type 0
 IsSettledPair p = IsFitted (value_of p.1) × (erased (value_of p.1) ≡ value_of p.1)
@@ -218,40 +229,45 @@ first_fit_settled ps legal =
     (keys_are qs ∙ first_fit_keys ps legal ∙ sym (ap₂ (λ n ks. placed_keys text_hash (map_capacity n) (ascending ks)) (count_is qs) (keys_are qs)))
 
 mutual
-  settled : (t : Tree) → IsLegal t → HasNoWholes t → IsFitted (value_of t) × (erased (value_of t) ≡ value_of t)
-  settled (leaf (document.truth b)) l none = (leaf_is_fitted {tag = 0} refl (omega arith), refl)
-  settled (leaf (document.number n)) l none = (leaf_is_fitted {tag = 1} refl (omega arith), refl)
-  settled (leaf (document.text s)) l none = (leaf_is_fitted {tag = 2} refl (omega arith), refl)
-  settled (shared s) l none = (leaf_is_fitted {tag = 3} refl (omega arith), refl)
-  settled nothing l none = (nothing_is_fitted refl, refl)
-  settled (just t) l none = let r = settled t l none in (some_is_fitted refl r.0, ap (λ v. tagged_value 4 (tagged_value 1 v)) r.1)
-  settled (list ts) l none = let r = all_settled ts l.0 none in (list_is_fitted refl r.0, ap (λ vs. tagged_value 5 (group vs)) r.1)
-  settled (map ordered ps) l none = let r = pairs_settled ps (each_settled ordered [] ps l.0 none) in (ordered_is_fitted refl r.0, ap (λ vs. tagged_value 6 (group vs)) r.1)
-  settled (map hashed ps) l none =
+  pub settled : (t : Tree) → IsLegal t → IsFitted (value_of t) × (erased (value_of t) ≡ value_of t)
+  settled (leaf (document.truth b)) l = (leaf_is_fitted {tag = 0} refl (omega arith), refl)
+  settled (leaf (document.number n)) l = (leaf_is_fitted {tag = 1} refl (omega arith), refl)
+  settled (leaf (document.text s)) l = (leaf_is_fitted {tag = 2} refl (omega arith), refl)
+  settled (shared s) l = (leaf_is_fitted {tag = 3} refl (omega arith), refl)
+  settled nothing l = (nothing_is_fitted refl, refl)
+  settled (just t) l = let r = settled t l in (some_is_fitted refl r.0, ap (λ v. tagged_value 4 (tagged_value 1 v)) r.1)
+  settled (list ts) l = let r = all_settled ts l.0 in (list_is_fitted refl r.0, ap (λ vs. tagged_value 5 (group vs)) r.1)
+  settled (map ordered ps) l = let r = pairs_settled ps (each_settled ordered [] ps l.0) in (ordered_is_fitted refl r.0, ap (λ vs. tagged_value 6 (group vs)) r.1)
+  settled (map hashed ps) l =
       let xs = pairs_in ps in
       let hashes = pair_hashes xs in
-      let each = placed_each IsSettledPair (capacity_of 7 8 hashes xs) (places_of 7 8 hashes xs) xs (each_settled hashed [] ps l.0 none) in
+      let each = placed_each IsSettledPair (capacity_of 7 8 hashes xs) (places_of 7 8 hashes xs) xs (each_settled hashed [] ps l.0) in
       let same = sym (first_fit_pairs ps) in (
         hashed_is_fitted refl (first_fit_settled ps l.0) (subst ArePairsFitted same (pairs_fitted (by_place 7 8 hashes xs) each)),
         ap (λ vs. tagged_value 7 (group vs)) (ap all_erased (sym same) ∙ pairs_nowhere (by_place 7 8 hashes xs) each ∙ same),
       )
-  settled (map kept ps) l none = let r = pairs_settled ps (each_settled kept [] ps l.0 none) in (kept_is_fitted refl r.0, ap (λ vs. tagged_value 8 (group vs)) r.1)
-  settled (whole t) l none = absurd (false≢true none)
+  settled (map kept ps) l = let r = pairs_settled ps (each_settled kept [] ps l.0) in (kept_is_fitted refl r.0, ap (λ vs. tagged_value 8 (group vs)) r.1)
+  settled (whole t) l = let r = settled t l in (whole_is_fitted refl r.0, ap (λ v. tagged_value 9 (counted 0 v)) r.1)
 
-  all_settled : (ts : Trees) → AreLegal ts → AreNumbered [] ts → AreFitted (values_of ts) × (all_erased (values_of ts) ≡ values_of ts)
-  all_settled no_trees l none = (none_are_fitted refl, refl)
-  all_settled (more_trees t ts) l none =
-      let r = settled t l.0 none.0 in
-      let rs = all_settled ts l.1 none.1 in
+  all_settled : (ts : Trees) → AreLegal ts → AreFitted (values_of ts) × (all_erased (values_of ts) ≡ values_of ts)
+  all_settled no_trees l = (none_are_fitted refl, refl)
+  all_settled (more_trees t ts) l =
+      let r = settled t l.0 in
+      let rs = all_settled ts l.1 in
       (more_are_fitted refl r.0 rs.0, ap₂ more_values r.1 rs.1)
 
-  each_settled : (kind : MapKind) (before : List (List ℕ)) (ps : Pairs) → ArePairs kind before ps → ArePairsNumbered [] ps → AllByRecursion IsSettledPair (pairs_in ps)
-  each_settled kind before no_pairs l none = tt
-  each_settled kind before (more_pairs k t ps) l none = (settled t l.1.0 none.0, each_settled kind (k ∷ before) ps l.1.1 none.1)
+  each_settled : (kind : MapKind) (before : List (List ℕ)) (ps : Pairs) → ArePairs kind before ps → AllByRecursion IsSettledPair (pairs_in ps)
+  each_settled kind before no_pairs l = tt
+  each_settled kind before (more_pairs k t ps) l = (settled t l.1.0, each_settled kind (k ∷ before) ps l.1.1)
 
 pub value_denotes_law : ValueDenotes
-value_denotes_law t document none =
-    let same = (node_agrees t).plain in
+value_denotes_law t document =
+    let same = node_value_is t document in
     let legal = document.0 in
-    let own = settled t legal none in
-    (denoted t (node_value t) legal none (ap erased same ∙ own.1), subst IsFitted (sym same) own.0)
+    let own = settled t legal in
+    (denoted t (node_value t) legal (ap erased same ∙ own.1), subst IsFitted (sym same) own.0)
+
+-- ---- no two legal documents have one value
+
+pub same_tree : (t u : Tree) → IsLegal t → IsLegal u → value_of t ≡ value_of u → t ≡ u
+same_tree t u l m same = one_tree (denoted t (value_of t) l (settled t l).1) (denoted u (value_of t) m ((settled t l).1 ∙ same))

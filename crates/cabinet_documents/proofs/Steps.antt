@@ -17,7 +17,7 @@ use Rattle.archive_forms_values.specs.ShapeLayout.Path.StandsIn.{stands_first, s
 use Rattle.archive_forms_values.proofs.ShapeLayout.Unique.{by_plain, by_claimed}
 use Rattle.cabinet_documents.specs.Node.{node_names, node_shape}
 use Rattle.cabinet_documents.specs.Denotes.{tagged_value}
-use Rattle.cabinet_documents.proofs.Places.{Place, node_here, payload_here, truth_here, number_here, text_here, shared_here, option_here, box_here, list_here, ordered_here, table_here, index_here, tree_child, node_behind, nodes_behind, text_behind, Spot, part_of, parts_at, each_from, nodes_from, nodes_are, Passes, node_passes, box_passes, behind_passes, list_passes, text_passes, child_passes, table_passes, Pays, Follows, passes, pays, truth_is, number_is, text_is, none_is, some_is, Leads, leads_nowhere, leads_plain, leads_claimed, led}
+use Rattle.cabinet_documents.proofs.Places.{Place, node_here, payload_here, truth_here, number_here, text_here, shared_here, option_here, box_here, list_here, ordered_here, table_here, index_here, whole_here, tree_child, node_behind, nodes_behind, text_behind, Spot, part_of, parts_at, each_from, nodes_from, nodes_are, Passes, node_passes, box_passes, behind_passes, list_passes, text_passes, child_passes, table_passes, Pays, Follows, passes, pays, truth_is, number_is, text_is, none_is, some_is, Leads, leads_nowhere, leads_plain, leads_claimed, led}
 use Rattle.cabinet_documents.proofs.Nodes.{none_illegal, TruthValue, NumberValue, TextValue, ValueAt, ValuesAt, none_at, follow}
 
 -- some places pass on the value of what they lead to
@@ -50,7 +50,8 @@ place_of (suc (suc (suc (suc zero)))) = option_here
 place_of (suc (suc (suc (suc (suc zero))))) = list_here
 place_of (suc (suc (suc (suc (suc (suc zero)))))) = ordered_here
 place_of (suc (suc (suc (suc (suc (suc (suc zero))))))) = table_here
-place_of (suc (suc (suc (suc (suc (suc (suc (suc n)))))))) = index_here
+place_of (suc (suc (suc (suc (suc (suc (suc (suc zero)))))))) = index_here
+place_of (suc (suc (suc (suc (suc (suc (suc (suc (suc n))))))))) = whole_here
 
 abbrev pub AllAt : Place → List Spot → Type 0
 AllAt k [] = ⊤

@@ -3,7 +3,7 @@ use Rattle.std.proofs.Common.{◌≡◌, ℕ, zero, suc, ◌+◌, ◌≤◌, ◌
 use Rattle.std.specs.List.{AllByRecursion}
 use Rattle.std.specs.Int.{w32, w64, to_le_bytes, cast_unsigned}
 use Rattle.std.proofs.Math.Nat.{le-max_left, le-max_right}
-use Rattle.std.proofs.lemmas.Bool.{false≢true}
+use Rattle.std.specs.Prelude.{IsTrue}
 use Rattle.std.proofs.lemmas.List.{length-replicate}
 use Rattle.archive_forms_values.specs.ShapeLayout.Bytes.{align_up}
 use Rattle.archive_forms_values.specs.ShapeLayout.Shape.{align_of}
@@ -41,26 +41,27 @@ use Rattle.archive_index_spelling.specs.Maps.{numbers}
 use Rattle.cabinet_text_grammar.specs.Keys.{MapKind, ordered, hashed, kept}
 use Rattle.cabinet_text_grammar.specs.Tree as document
 use Rattle.cabinet_text_grammar.specs.Tree.{Tree, Trees, Pairs, leaf, shared, nothing, just, list, map, whole, no_trees, more_trees, no_pairs, more_pairs, depth, most_depth, pairs_depth, IsLegal, AreLegal, ArePairs}
-use Rattle.cabinet_text_grammar.specs.Wholes.{AreNumbered, ArePairsNumbered}
-use Rattle.cabinet_documents.specs.Node.{node_shape, node_names, pair_shape}
+use Rattle.cabinet_text_grammar.specs.Wholes.{has, wholes_of, IsNumbered, AreNumbered, ArePairsNumbered, IsTable}
+use Rattle.cabinet_text_grammar.proofs.Tables.{listed_table, listed_numbered, document_table, document_numbered}
+use Rattle.cabinet_documents.specs.Node.{node_shape, node_names, pair_shape, whole_shape}
 use Rattle.cabinet_documents.specs.Denotes.{tagged_value}
 use Rattle.cabinet_documents.specs.declared.spelling.resolver.NodeResolver.{NodeResolver}
 use Rattle.cabinet_documents.specs.declared.spelling.resolver.NodeResolver.TheVariants as resolver
-use Rattle.cabinet_documents.specs.NoWholes.{HasNoWholes}
-use Rattle.cabinet_documents.specs.Spelling.{truth_spelling, number_spelling, shared_string_spelling, boxed_shape, boxed_spelling, maybe_spelling, list_spelling, ordered_spelling, hashed_spelling, kept_spelling, trees_in, pairs_in, text_in, shared_in, maybe_in, list_in, ordered_in, hashed_in, kept_in, refused, spelling_of, node_level, node_spelling}
+use Rattle.cabinet_documents.specs.Spelling.{truth_spelling, number_spelling, shared_string_spelling, boxed_shape, boxed_spelling, maybe_spelling, list_spelling, ordered_spelling, hashed_spelling, kept_spelling, whole_spelling, trees_in, pairs_in, text_in, shared_in, maybe_in, list_in, ordered_in, hashed_in, kept_in, whole_in, refused, spelling_of, node_level, node_spelling}
 use Rattle.cabinet_documents.specs.SpellingLaws.{RefusedIsPast}
 use Rattle.cabinet_documents.proofs.FirstFit.{by_first_fit}
-use Rattle.cabinet_documents.proofs.NoWholes.{denoted_has_no_wholes}
 use Rattle.cabinet_documents.proofs.PlacedPairs.{pair_hashes}
-use Rattle.cabinet_documents.proofs.Values.{value_of, values_of, values_of_pairs, node_agrees, one_value_law}
-use Rattle.cabinet_documents.proofs.SpellingDenoted.{tagged, simply_tagged, shared_text, grouped}
-use Rattle.cabinet_documents.proofs.Plans.{entry_values, places_for, values_listed, pairs_listed, length-values, FillsMaps, pairs_planned, map_planned, kept_planned, Planned, node_planned, truth_planned, number_planned, text_planned, shared_planned, none_planned, some_planned, box_planned, list_planned, has_plan, slice_plan}
+use Rattle.cabinet_documents.proofs.Values.{keys_of, texts_stand, value_of, values_of, values_of_pairs, node_agrees, one_value_law}
+use Rattle.cabinet_documents.proofs.SharedMet.{Sharing, Begun}
+use Rattle.cabinet_documents.proofs.SpellingDenoted.{tagged, simply_tagged, counted_value, shared_text, grouped}
+use Rattle.cabinet_documents.proofs.Plans.{entry_values, places_for, values_listed, pairs_listed, length-values, FillsMaps, pairs_planned, map_planned, kept_planned, Planned, node_planned, truth_planned, number_planned, text_planned, shared_planned, whole_planned, none_planned, some_planned, box_planned, list_planned, has_plan, slice_plan}
 use Rattle.cabinet_documents.proofs.Fields.{text_length_of, laid, past_left, past_right, past_either, flat_lies, part_lies, Reads, no_fields, text_reads, shared_reads, shared_lies}
 use Rattle.cabinet_documents.proofs.StoredPairs.{TellsEntry}
 use Rattle.cabinet_documents.proofs.StoredTables.{hashed_reads, hashed_lies}
 use Rattle.cabinet_documents.proofs.StoredIndexMaps.{kept_reads, kept_lies}
 use Rattle.cabinet_documents.proofs.Filling.{first_fit_fills}
 use Rattle.cabinet_documents.proofs.StoredTrees.{map_reads, map_lies}
+use Rattle.cabinet_documents.proofs.StoredWholes.{shares, whole_reads, whole_lies}
 use Rattle.cabinet_documents.proofs.Storing.{as_plan, node_reads, Tells, ReadsNode, LiesNode, ReadsAll, as_part, flat_can_lie, text_can_lie, one_read, box_region, box_lies, slice_region, slice_lies, box_reads, some_reads, list_reads}
 
 -- ---- the sizes of nodes
@@ -83,7 +84,7 @@ index_length None (Some start) pos n cap = refl
 index_length (Some to) None pos n cap = refl
 index_length (Some to) (Some start) pos n cap = refl
 
-module _ (w : Spelling Tree NodeResolver) where
+module _ (wholes : List Tree) (w : Spelling Tree NodeResolver) where
   none_length : (r : Option BoxResolver) (pos : ℕ) → length (option_own boxed_shape (boxed_spelling w) None r pos) ≡ 8
   unfolding align_up
   none_length None pos = length-replicate {A = ℕ} 8 0
@@ -94,49 +95,53 @@ module _ (w : Spelling Tree NodeResolver) where
   some_length t None pos = length-replicate {A = ℕ} 8 0
   some_length t (Some r) pos = length-tagged 1 4 8 (offset_bytes (pos + 4) r.pos) (omega arith) (omega arith)
 
-  node_length : (t : Tree) → HasNoWholes t → (r : NodeResolver) (pos : ℕ) → length ((node_level w).own t r pos) ≡ 24
+  node_length : (t : Tree) → (r : NodeResolver) (pos : ℕ) → length ((node_level wholes w).own t r pos) ≡ 24
   unfolding align_up
-  node_length (leaf (document.truth b)) none r pos = let n = truth_length b in length-tagged 0 1 24 (truth_bytes b) (omega arith) (omega (arith, n))
-  node_length (leaf (document.number z)) none r pos = length-tagged 1 8 24 (to_le_bytes w64 (cast_unsigned w64 z)) (omega arith) (omega arith)
-  node_length (leaf (document.text t)) none r pos =
+  node_length (leaf (document.truth b)) r pos = let n = truth_length b in length-tagged 0 1 24 (truth_bytes b) (omega arith) (omega (arith, n))
+  node_length (leaf (document.number z)) r pos = length-tagged 1 8 24 (to_le_bytes w64 (cast_unsigned w64 z)) (omega arith) (omega arith)
+  node_length (leaf (document.text t)) r pos =
       let n = text_length_of t (text_in r).pos (pos + 4) in
       length-tagged 2 4 24 (text_own (is_short t) t (text_in r).pos (pos + 4)) (omega arith) (omega (arith, n))
-  node_length (shared t) none r pos = length-tagged 3 4 24 (offset_bytes (pos + 4) (shared_in r).pos ++ to_le_bytes w32 (length t)) (omega arith) (omega arith)
-  node_length nothing none r pos =
+  node_length (shared t) r pos = length-tagged 3 4 24 (offset_bytes (pos + 4) (shared_in r).pos ++ to_le_bytes w32 (length t)) (omega arith) (omega arith)
+  node_length nothing r pos =
       let n = none_length (maybe_in r) (pos + 4) in
       length-tagged 4 4 24 (option_own boxed_shape (boxed_spelling w) None (maybe_in r) (pos + 4)) (omega arith) (omega (arith, n))
-  node_length (just t) none r pos =
+  node_length (just t) r pos =
       let n = some_length t (maybe_in r) (pos + 4) in
       length-tagged 4 4 24 (option_own boxed_shape (boxed_spelling w) (Some t) (maybe_in r) (pos + 4)) (omega arith) (omega (arith, n))
-  node_length (list ts) none r pos =
+  node_length (list ts) r pos =
       length-tagged 5 4 24 (offset_bytes (pos + 4) (list_in r).pos ++ to_le_bytes w32 (length (trees_in ts))) (omega arith) (omega arith)
-  node_length (map ordered ps) none r pos =
+  node_length (map ordered ps) r pos =
       let root = (ordered_in r).pos in
       let count = length (pairs_in ps) in
       let n = map_length root (pos + 4) count in
       length-tagged 6 4 24 (link_bytes root (pos + 4) ++ to_le_bytes w32 count) (omega arith) (omega (arith, n))
-  node_length (map hashed ps) none r pos =
+  node_length (map hashed ps) r pos =
       let controls = (hashed_in r).pos in
       let count = length (pairs_in ps) in
       let places = places_for (pairs_in ps) in
       let n = table_length controls (pos + 4) count places in
       length-tagged 7 4 24 (link_bytes controls (pos + 4) ++ (to_le_bytes w32 count ++ to_le_bytes w32 places)) (omega arith) (omega (arith, n))
-  node_length (map kept ps) none r pos =
+  node_length (map kept ps) r pos =
       let controls = (kept_in r).table.pos in
       let entries = (kept_in r).entries in
       let count = length (numbers (pairs_in ps)) in
       let places = capacity_of 7 8 (pair_hashes (pairs_in ps)) (numbers (pairs_in ps)) in
       let n = index_length controls entries (pos + 4) count places in
       length-tagged 8 4 24 ((link_bytes controls (pos + 4) ++ (to_le_bytes w32 count ++ to_le_bytes w32 places)) ++ link_bytes entries (pos + 4 + 12)) (omega arith) (omega (arith, n))
-  node_length (whole t) none r pos = absurd (false≢true none)
+  node_length (whole t) r pos = length-tagged 9 4 24 (offset_bytes (pos + 4) (whole_in r).pos) (omega arith) (omega arith)
 
 -- ---- one level of nodes
 
-module _ (fit : Fit) (fills : FillsMaps fit) (w : Spelling Tree NodeResolver) where
+module _ (fit : Fit) (fills : FillsMaps fit) (wholes : List Tree) (is_table : IsTable wholes) (w : Spelling Tree NodeResolver) where
+  abbrev by : ℕ → Sharing
+  by d = shares wholes is_table d
+
   -- what is read of the kind of a node is read of the node
-  as_level : (t : Tree) (s : State) (own : ℕ) (fs : List Field) (b : limits.State) → Reads (spelling_of w t) t s own fs b → Reads (node_level w) t s own fs b
-  as_level t s own fs b h = record {
+  as_level : (d : ℕ) (t : Tree) (s : State) (own : ℕ) (fs : List Field) (b : limits.State) → Reads (by d) (spelling_of wholes w t) t s own fs b → Reads (by d) (node_level wholes w) t s own fs b
+  as_level d t s own fs b h = record {
     alike = h.alike;
+    spares = h.spares;
     there = h.there;
     piece_past = h.piece_past;
     own_past = h.own_past;
@@ -145,66 +150,66 @@ module _ (fit : Fit) (fills : FillsMaps fit) (w : Spelling Tree NodeResolver) wh
 
   -- of documents that are less deep
   abbrev EachTells : ℕ → Type 0
-  EachTells n = (y : Tree) → suc (depth y) ≤ n → IsLegal y → HasNoWholes y → Tells fit w y
+  EachTells n = (d : ℕ) (y : Tree) → suc (depth y) ≤ n → depth y ≤ d → IsLegal y → IsNumbered wholes y → Tells (by d) fit w y
 
-  trees_tell : (n : ℕ) → EachTells n → (ts : Trees) → suc (most_depth ts) ≤ n → AreLegal ts → AreNumbered [] ts → AllByRecursion (Tells fit w) (trees_in ts)
-  trees_tell n each no_trees less legal none = tt
-  trees_tell n each (more_trees t ts) less legal none =
+  trees_tell : (n : ℕ) → EachTells n → (d : ℕ) (ts : Trees) → suc (most_depth ts) ≤ n → most_depth ts ≤ d → AreLegal ts → AreNumbered wholes ts → AllByRecursion (Tells (by d) fit w) (trees_in ts)
+  trees_tell n each d no_trees less deep legal known = tt
+  trees_tell n each d (more_trees t ts) less deep legal known =
       let a = le-max_left (depth t) (most_depth ts) in
       let b = le-max_right (depth t) (most_depth ts) in
-      (each t (omega (arith, a)) legal.0 none.0, trees_tell n each ts (omega (arith, b)) legal.1 none.1)
+      (each d t (omega (arith, a)) (omega (arith, a, deep)) legal.0 known.0, trees_tell n each d ts (omega (arith, b)) (omega (arith, b, deep)) legal.1 known.1)
 
-  pairs_tell : (n : ℕ) → EachTells n → (kind : MapKind) (keys : List (List ℕ)) (ps : Pairs) → suc (pairs_depth ps) ≤ n → ArePairs kind keys ps → ArePairsNumbered [] ps → EachIs (TellsEntry w fit) (pairs_in ps)
-  pairs_tell n each kind keys no_pairs less legal none = tt
-  pairs_tell n each kind keys (more_pairs k t ps) less legal none =
+  pairs_tell : (n : ℕ) → EachTells n → (d : ℕ) (kind : MapKind) (keys : List (List ℕ)) (ps : Pairs) → suc (pairs_depth ps) ≤ n → pairs_depth ps ≤ d → ArePairs kind keys ps → ArePairsNumbered wholes ps → EachIs (TellsEntry (by d) w fit) (pairs_in ps)
+  pairs_tell n each d kind keys no_pairs less deep legal known = tt
+  pairs_tell n each d kind keys (more_pairs k t ps) less deep legal known =
       let a = le-max_left (depth t) (pairs_depth ps) in
       let b = le-max_right (depth t) (pairs_depth ps) in
-      (each t (omega (arith, a)) legal.1.0 none.0, pairs_tell n each kind (k ∷ keys) ps (omega (arith, b)) legal.1.1 none.1)
+      (each d t (omega (arith, a)) (omega (arith, a, deep)) legal.1.0 known.0, pairs_tell n each d kind (k ∷ keys) ps (omega (arith, b)) (omega (arith, b, deep)) legal.1.1 known.1)
 
-  level_reads : (n : ℕ) → EachTells n → (t : Tree) → depth t ≤ n → IsLegal t → HasNoWholes t → ReadsNode fit (node_level w) t
-  level_reads n each (leaf (document.truth b)) less legal none v p same planned s seen alike begun own fs c h =
+  level_reads : (n : ℕ) → EachTells n → (d : ℕ) (t : Tree) → depth t ≤ n → depth t ≤ d → IsLegal t → IsNumbered wholes t → ReadsNode (by d) fit (node_level wholes w) t
+  level_reads n each d (leaf (document.truth b)) less deep legal known v p same planned s seen alike begun own fs c h =
       let x = tagged 0 (boolean b) v same in
       let q = node_planned fit 0 truth x.inner v p x.is refl planned in
       let l = part_lies (align_up 1 (align_of truth)) own q.inner (laid s seen) c fs (subst (λ z. Lies z own (laid s seen) fs c) q.is h) in
       let ends = flat_lies (own + align_up 1 (align_of truth)) (laid s seen) c l.0 (subst (λ z. Lies z (own + align_up 1 (align_of truth)) (laid s seen) l.0 c) (truth_planned fit x.inner q.inner q.planned) l.1) in
-      as_level (leaf (document.truth b)) s own fs c
-      (node_reads 0 truth truth_spelling (λ _. resolver.Leaf) (λ _. tt) b (leaf (document.truth b)) s own l.0 fs c refl
-      (no_fields truth_spelling b s seen (own + align_up 1 (align_of truth)) l.0 c alike refl refl (λ e r. r) (λ e r. r) ends) l.2)
-  level_reads n each (leaf (document.number z)) less legal none v p same planned s seen alike begun own fs c h =
+      as_level d (leaf (document.truth b)) s own fs c
+      (node_reads (by d) 0 truth truth_spelling (λ _. resolver.Leaf) (λ _. tt) b (leaf (document.truth b)) s own l.0 fs c refl
+      (no_fields (by d) truth_spelling b s seen (own + align_up 1 (align_of truth)) l.0 c alike refl refl (λ e r. r) (λ e r. r) ends) l.2)
+  level_reads n each d (leaf (document.number z)) less deep legal known v p same planned s seen alike begun own fs c h =
       let shape = number w64 true in
       let x = tagged 1 (integer z) v same in
       let q = node_planned fit 1 shape x.inner v p x.is refl planned in
       let l = part_lies (align_up 1 (align_of shape)) own q.inner (laid s seen) c fs (subst (λ y. Lies y own (laid s seen) fs c) q.is h) in
       let ends = flat_lies (own + align_up 1 (align_of shape)) (laid s seen) c l.0 (subst (λ y. Lies y (own + align_up 1 (align_of shape)) (laid s seen) l.0 c) (number_planned fit x.inner q.inner q.planned) l.1) in
-      as_level (leaf (document.number z)) s own fs c
-      (node_reads 1 shape number_spelling (λ _. resolver.Leaf) (λ _. tt) z (leaf (document.number z)) s own l.0 fs c refl
-      (no_fields number_spelling z s seen (own + align_up 1 (align_of shape)) l.0 c alike refl refl (λ e r. r) (λ e r. r) ends) l.2)
-  level_reads n each (leaf (document.text t)) less legal none v p same planned s seen alike begun own fs c h =
+      as_level d (leaf (document.number z)) s own fs c
+      (node_reads (by d) 1 shape number_spelling (λ _. resolver.Leaf) (λ _. tt) z (leaf (document.number z)) s own l.0 fs c refl
+      (no_fields (by d) number_spelling z s seen (own + align_up 1 (align_of shape)) l.0 c alike refl refl (λ e r. r) (λ e r. r) ends) l.2)
+  level_reads n each d (leaf (document.text t)) less deep legal known v p same planned s seen alike begun own fs c h =
       let is = simply_tagged 2 (string t) v tt same in
       let q = node_planned fit 2 text (string t) v p is refl planned in
       let l = part_lies (align_up 1 (align_of text)) own q.inner (laid s seen) c fs (subst (λ y. Lies y own (laid s seen) fs c) q.is h) in
-      as_level (leaf (document.text t)) s own fs c
-      (node_reads 2 text str_spelling resolver.Text text_in t (leaf (document.text t)) s own l.0 fs c refl
-      (text_reads t s seen (own + align_up 1 (align_of text)) q.inner l.0 c (text_planned fit t (string t) q.inner refl q.planned) alike l.1) l.2)
-  level_reads n each (shared t) less legal none v p same planned s seen alike begun own fs c h =
+      as_level d (leaf (document.text t)) s own fs c
+      (node_reads (by d) 2 text str_spelling resolver.Text text_in t (leaf (document.text t)) s own l.0 fs c refl
+      (text_reads (by d) t s seen (own + align_up 1 (align_of text)) q.inner l.0 c (text_planned fit t (string t) q.inner refl q.planned) alike l.1) l.2)
+  level_reads n each d (shared t) less deep legal known v p same planned s seen alike begun own fs c h =
       let shape = shared_shape false str in
       let x = tagged 3 (counted 0 (string t)) v same in
       let y = shared_text t x.inner x.same in
       let q = node_planned fit 3 shape x.inner v p x.is refl planned in
       let l = part_lies (align_up 1 (align_of shape)) own q.inner (laid s seen) c fs (subst (λ z. Lies z own (laid s seen) fs c) q.is h) in
-      as_level (shared t) s own fs c
-      (node_reads 3 shape shared_string_spelling resolver.Shared shared_in t (shared t) s own l.0 fs c refl
-      (shared_reads t s seen alike begun (own + align_up 1 (align_of shape)) q.inner l.0 c (shared_planned fit y.pos t x.inner q.inner y.is q.planned) l.1) l.2)
-  level_reads n each nothing less legal none v p same planned s seen alike begun own fs c h =
+      as_level d (shared t) s own fs c
+      (node_reads (by d) 3 shape shared_string_spelling resolver.Shared shared_in t (shared t) s own l.0 fs c refl
+      (shared_reads (by d) t s seen alike begun (own + align_up 1 (align_of shape)) q.inner l.0 c (shared_planned fit y.pos t x.inner q.inner y.is q.planned) l.1) l.2)
+  level_reads n each d nothing less deep legal known v p same planned s seen alike begun own fs c h =
       let shape = option boxed_shape in
       let is = simply_tagged 4 (chosen 0 no_values) v tt same in
       let q = node_planned fit 4 shape (chosen 0 no_values) v p is refl planned in
       let l = part_lies (align_up 1 (align_of shape)) own q.inner (laid s seen) c fs (subst (λ z. Lies z own (laid s seen) fs c) q.is h) in
       let ends = flat_lies (own + align_up 1 (align_of shape)) (laid s seen) c l.0 (subst (λ y. Lies y (own + align_up 1 (align_of shape)) (laid s seen) l.0 c) (none_planned fit (chosen 0 no_values) q.inner refl q.planned) l.1) in
-      as_level nothing s own fs c
-      (node_reads 4 shape (maybe_spelling w) resolver.Maybe maybe_in None nothing s own l.0 fs c refl
-      (no_fields (maybe_spelling w) None s seen (own + align_up 1 (align_of shape)) l.0 c alike refl refl (λ e r. r) (λ e r. r) ends) l.2)
-  level_reads n each (just t) less legal none v p same planned s seen alike begun own fs c h =
+      as_level d nothing s own fs c
+      (node_reads (by d) 4 shape (maybe_spelling w) resolver.Maybe maybe_in None nothing s own l.0 fs c refl
+      (no_fields (by d) (maybe_spelling w) None s seen (own + align_up 1 (align_of shape)) l.0 c alike refl refl (λ e r. r) (λ e r. r) ends) l.2)
+  level_reads n each d (just t) less deep legal known v p same planned s seen alike begun own fs c h =
       let shape = option boxed_shape in
       let x = tagged 4 (tagged_value 1 (value_of t)) v same in
       let y = tagged 1 (value_of t) x.inner x.same in
@@ -214,11 +219,11 @@ module _ (fit : Fit) (fills : FillsMaps fit) (w : Spelling Tree NodeResolver) wh
       let some = some_planned fit y.inner x.inner q.inner y.is q.planned in
       let m = part_lies (align_up 1 (align_of boxed_shape)) at some.0 (laid s seen) c l.0 (subst (λ z. Lies z at (laid s seen) l.0 c) some.2 l.1) in
       let box = box_planned fit y.inner some.0 some.1 in
-      let region = box_region fit w t (each t less legal none) y.inner box.inner some.0 y.same box.planned box.is s seen alike begun (at + align_up 1 (align_of boxed_shape)) m.0 c m.1 in
-      as_level (just t) s own fs c
-      (node_reads 4 shape (maybe_spelling w) resolver.Maybe maybe_in (Some t) (just t) s own l.0 fs c refl
-      (some_reads fit w t s at m.0 l.0 c (box_reads fit w t s (at + align_up 1 (align_of boxed_shape)) m.0 c region) m.2) l.2)
-  level_reads n each (list ts) less legal none v p same planned s seen alike begun own fs c h =
+      let region = box_region (by d) fit w t (each d t less (omega (arith, deep)) legal known) y.inner box.inner some.0 y.same box.planned box.is s seen alike begun (at + align_up 1 (align_of boxed_shape)) m.0 c m.1 in
+      as_level d (just t) s own fs c
+      (node_reads (by d) 4 shape (maybe_spelling w) resolver.Maybe maybe_in (Some t) (just t) s own l.0 fs c refl
+      (some_reads (by d) fit w t s at m.0 l.0 c (box_reads (by d) fit w t s (at + align_up 1 (align_of boxed_shape)) m.0 c region) m.2) l.2)
+  level_reads n each d (list ts) less deep legal known v p same planned s seen alike begun own fs c h =
       let shape = vector node_shape in
       let x = tagged 5 (group (values_of ts)) v same in
       let y = grouped (values_of ts) x.inner x.same in
@@ -227,11 +232,11 @@ module _ (fit : Fit) (fills : FillsMaps fit) (w : Spelling Tree NodeResolver) wh
       let many = list_planned fit y.inner x.inner q.inner y.is q.planned in
       let these = ap listed y.same ∙ values_listed ts in
       let is = many.is ∙ ap (λ k. slice_plan node_shape (k ∷ []) (count_values y.inner) many.inner) (length-values value_of (trees_in ts) y.inner these) in
-      let region = slice_region fit node_shape value_of w (trees_in ts) (trees_tell n each ts less legal.0 none) y.inner many.inner q.inner (length (trees_in ts) ∷ []) these many.planned is s seen alike begun (own + align_up 1 (align_of shape)) l.0 c l.1 in
-      as_level (list ts) s own fs c
-      (node_reads 5 shape (list_spelling w) resolver.List list_in (trees_in ts) (list ts) s own l.0 fs c refl
-      (list_reads fit w (trees_in ts) s (own + align_up 1 (align_of shape)) l.0 c region) l.2)
-  level_reads n each (map ordered ps) less legal none v p same planned s seen alike begun own fs c h =
+      let region = slice_region (by d) fit node_shape value_of w (trees_in ts) (trees_tell n each d ts less (omega (arith, deep)) legal.0 known) y.inner many.inner q.inner (length (trees_in ts) ∷ []) these many.planned is s seen alike begun (own + align_up 1 (align_of shape)) l.0 c l.1 in
+      as_level d (list ts) s own fs c
+      (node_reads (by d) 5 shape (list_spelling w) resolver.List list_in (trees_in ts) (list ts) s own l.0 fs c refl
+      (list_reads (by d) fit w (trees_in ts) s (own + align_up 1 (align_of shape)) l.0 c region) l.2)
+  level_reads n each d (map ordered ps) less deep legal known v p same planned s seen alike begun own fs c h =
       let shape = tree 5 text node_shape in
       let xs = pairs_in ps in
       let x = tagged 6 (group (values_of_pairs ps)) v same in
@@ -239,10 +244,10 @@ module _ (fit : Fit) (fills : FillsMaps fit) (w : Spelling Tree NodeResolver) wh
       let q = node_planned fit 6 shape x.inner v p x.is refl planned in
       let l = part_lies (align_up 1 (align_of shape)) own q.inner (laid s seen) c fs (subst (λ z. Lies z own (laid s seen) fs c) q.is h) in
       let m = map_planned fit xs y.inner x.inner q.inner y.is (y.same ∙ entry_values fit ps) q.planned in
-      as_level (map ordered ps) s own fs c
-      (node_reads 6 shape (ordered_spelling w) resolver.Ordered ordered_in xs (map ordered ps) s own l.0 fs c refl
-      (map_reads w fit xs q.inner m (pairs_tell n each ordered [] ps less legal.0 none) s seen alike begun (own + align_up 1 (align_of shape)) l.0 c l.1) l.2)
-  level_reads n each (map hashed ps) less legal none v p same planned s seen alike begun own fs c h =
+      as_level d (map ordered ps) s own fs c
+      (node_reads (by d) 6 shape (ordered_spelling w) resolver.Ordered ordered_in xs (map ordered ps) s own l.0 fs c refl
+      (map_reads (by d) w fit xs q.inner m (pairs_tell n each d ordered [] ps less (omega (arith, deep)) legal.0 known) s seen alike begun (own + align_up 1 (align_of shape)) l.0 c l.1) l.2)
+  level_reads n each d (map hashed ps) less deep legal known v p same planned s seen alike begun own fs c h =
       let shape = table pair_shape in
       let xs = pairs_in ps in
       let vs = by_first_fit (values_of_pairs ps) in
@@ -252,10 +257,10 @@ module _ (fit : Fit) (fills : FillsMaps fit) (w : Spelling Tree NodeResolver) wh
       let l = part_lies (align_up 1 (align_of shape)) own q.inner (laid s seen) c fs (subst (λ z. Lies z own (laid s seen) fs c) q.is h) in
       let filled = fills.hashed_maps ps legal.0 in
       let m = pairs_planned fit xs vs y.inner x.inner q.inner filled y.is y.same q.planned in
-      as_level (map hashed ps) s own fs c
-      (node_reads 7 shape (hashed_spelling w) resolver.Hashed hashed_in xs (map hashed ps) s own l.0 fs c refl
-      (hashed_reads w fit xs vs q.inner filled m (pairs_tell n each hashed [] ps less legal.0 none) s seen alike begun (own + align_up 1 (align_of shape)) l.0 c l.1) l.2)
-  level_reads n each (map kept ps) less legal none v p same planned s seen alike begun own fs c h =
+      as_level d (map hashed ps) s own fs c
+      (node_reads (by d) 7 shape (hashed_spelling w) resolver.Hashed hashed_in xs (map hashed ps) s own l.0 fs c refl
+      (hashed_reads (by d) w fit xs vs q.inner filled m (pairs_tell n each d hashed [] ps less (omega (arith, deep)) legal.0 known) s seen alike begun (own + align_up 1 (align_of shape)) l.0 c l.1) l.2)
+  level_reads n each d (map kept ps) less deep legal known v p same planned s seen alike begun own fs c h =
       let shape = index_map text node_shape in
       let xs = pairs_in ps in
       let x = tagged 8 (group (values_of_pairs ps)) v same in
@@ -264,35 +269,44 @@ module _ (fit : Fit) (fills : FillsMaps fit) (w : Spelling Tree NodeResolver) wh
       let l = part_lies (align_up 1 (align_of shape)) own q.inner (laid s seen) c fs (subst (λ z. Lies z own (laid s seen) fs c) q.is h) in
       let these = ap listed y.same ∙ pairs_listed ps in
       let m = kept_planned fit fills.kept_maps xs y.inner x.inner q.inner y.is these q.planned in
-      as_level (map kept ps) s own fs c
-      (node_reads 8 shape (kept_spelling w) resolver.Kept kept_in xs (map kept ps) s own l.0 fs c refl
-      (kept_reads w fit xs y.inner q.inner these m (pairs_tell n each kept [] ps less legal.0 none) s seen alike begun (own + align_up 1 (align_of shape)) l.0 c l.1) l.2)
-  level_reads n each (whole t) less legal none v p same planned s seen alike begun own fs c h = absurd (false≢true none)
+      as_level d (map kept ps) s own fs c
+      (node_reads (by d) 8 shape (kept_spelling w) resolver.Kept kept_in xs (map kept ps) s own l.0 fs c refl
+      (kept_reads (by d) w fit xs y.inner q.inner these m (pairs_tell n each d kept [] ps less (omega (arith, deep)) legal.0 known) s seen alike begun (own + align_up 1 (align_of shape)) l.0 c l.1) l.2)
+  level_reads n each d (whole t) less deep legal known v p same planned s seen alike begun own fs c h =
+      let x = tagged 9 (counted 0 (value_of t)) v same in
+      let y = counted_value (value_of t) x.inner x.same in
+      let q = node_planned fit 9 whole_shape x.inner v p x.is refl planned in
+      let l = part_lies (align_up 1 (align_of whole_shape)) own q.inner (laid s seen) c fs (subst (λ z. Lies z own (laid s seen) fs c) q.is h) in
+      let m = whole_planned fit y.pos (value_of t) y.inner x.inner q.inner y.is y.same q.planned in
+      let tell = each (depth t) t less (omega arith) legal (listed_numbered wholes t (listed_table wholes is_table) known) in
+      as_level d (whole t) s own fs c
+      (node_reads (by d) 9 whole_shape (whole_spelling wholes w) resolver.Whole whole_in t (whole t) s own l.0 fs c refl
+      (whole_reads fit wholes is_table w d t deep known tell y.inner m.inner y.same m.planned s seen alike begun (own + align_up 1 (align_of whole_shape)) q.inner l.0 c m.is l.1) l.2)
 
-  level_lies : (n : ℕ) → EachTells n → (t : Tree) → depth t ≤ n → IsLegal t → HasNoWholes t → LiesNode fit (node_level w) t
-  level_lies n each (leaf (document.truth b)) less legal none v p same planned s seen alike begun own =
+  level_lies : (n : ℕ) → EachTells n → (d : ℕ) (t : Tree) → depth t ≤ n → depth t ≤ d → IsLegal t → IsNumbered wholes t → LiesNode (by d) fit (node_level wholes w) t
+  level_lies n each d (leaf (document.truth b)) less deep legal known v p same planned s seen alike begun own =
       let x = tagged 0 (boolean b) v same in
       let q = node_planned fit 0 truth x.inner v p x.is refl planned in
       as_part truth p q.inner own (laid s seen) q.is (as_plan q.inner flat _ (laid s seen) (truth_planned fit x.inner q.inner q.planned) (flat_can_lie _ (laid s seen)))
-  level_lies n each (leaf (document.number z)) less legal none v p same planned s seen alike begun own =
+  level_lies n each d (leaf (document.number z)) less deep legal known v p same planned s seen alike begun own =
       let shape = number w64 true in
       let x = tagged 1 (integer z) v same in
       let q = node_planned fit 1 shape x.inner v p x.is refl planned in
       as_part shape p q.inner own (laid s seen) q.is (as_plan q.inner flat _ (laid s seen) (number_planned fit x.inner q.inner q.planned) (flat_can_lie _ (laid s seen)))
-  level_lies n each (leaf (document.text t)) less legal none v p same planned s seen alike begun own =
+  level_lies n each d (leaf (document.text t)) less deep legal known v p same planned s seen alike begun own =
       let q = node_planned fit 2 text (string t) v p (simply_tagged 2 (string t) v tt same) refl planned in
       as_part text p q.inner own (laid s seen) q.is (text_can_lie t q.inner _ (laid s seen) (text_planned fit t (string t) q.inner refl q.planned))
-  level_lies n each (shared t) less legal none v p same planned s seen alike begun own =
+  level_lies n each d (shared t) less deep legal known v p same planned s seen alike begun own =
       let shape = shared_shape false str in
       let x = tagged 3 (counted 0 (string t)) v same in
       let y = shared_text t x.inner x.same in
       let q = node_planned fit 3 shape x.inner v p x.is refl planned in
-      as_part shape p q.inner own (laid s seen) q.is (shared_lies t s seen alike begun (own + align_up 1 (align_of shape)) q.inner (shared_planned fit y.pos t x.inner q.inner y.is q.planned))
-  level_lies n each nothing less legal none v p same planned s seen alike begun own =
+      as_part shape p q.inner own (laid s seen) q.is (shared_lies (by d) t s seen alike begun (own + align_up 1 (align_of shape)) q.inner (shared_planned fit y.pos t x.inner q.inner y.is q.planned))
+  level_lies n each d nothing less deep legal known v p same planned s seen alike begun own =
       let shape = option boxed_shape in
       let q = node_planned fit 4 shape (chosen 0 no_values) v p (simply_tagged 4 (chosen 0 no_values) v tt same) refl planned in
       as_part shape p q.inner own (laid s seen) q.is (as_plan q.inner flat _ (laid s seen) (none_planned fit (chosen 0 no_values) q.inner refl q.planned) (flat_can_lie _ (laid s seen)))
-  level_lies n each (just t) less legal none v p same planned s seen alike begun own =
+  level_lies n each d (just t) less deep legal known v p same planned s seen alike begun own =
       let shape = option boxed_shape in
       let x = tagged 4 (tagged_value 1 (value_of t)) v same in
       let y = tagged 1 (value_of t) x.inner x.same in
@@ -302,24 +316,24 @@ module _ (fit : Fit) (fills : FillsMaps fit) (w : Spelling Tree NodeResolver) wh
       let box = box_planned fit y.inner some.0 some.1 in
       as_part shape p q.inner own (laid s seen) q.is
       (as_part boxed_shape q.inner some.0 at (laid s seen) some.2
-      (box_lies fit w t (each t less legal none) y.inner box.inner some.0 y.same box.planned box.is s seen alike begun (at + align_up 1 (align_of boxed_shape))))
-  level_lies n each (list ts) less legal none v p same planned s seen alike begun own =
+      (box_lies (by d) fit w t (each d t less (omega (arith, deep)) legal known) y.inner box.inner some.0 y.same box.planned box.is s seen alike begun (at + align_up 1 (align_of boxed_shape))))
+  level_lies n each d (list ts) less deep legal known v p same planned s seen alike begun own =
       let shape = vector node_shape in
       let x = tagged 5 (group (values_of ts)) v same in
       let y = grouped (values_of ts) x.inner x.same in
       let q = node_planned fit 5 shape x.inner v p x.is refl planned in
       let many = list_planned fit y.inner x.inner q.inner y.is q.planned in
       as_part shape p q.inner own (laid s seen) q.is
-      (slice_lies fit node_shape value_of w (trees_in ts) (trees_tell n each ts less legal.0 none) y.inner many.inner q.inner (count_values y.inner ∷ []) (ap listed y.same ∙ values_listed ts) many.planned many.is s seen alike begun (own + align_up 1 (align_of shape)))
-  level_lies n each (map ordered ps) less legal none v p same planned s seen alike begun own =
+      (slice_lies (by d) fit node_shape value_of w (trees_in ts) (trees_tell n each d ts less (omega (arith, deep)) legal.0 known) y.inner many.inner q.inner (count_values y.inner ∷ []) (ap listed y.same ∙ values_listed ts) many.planned many.is s seen alike begun (own + align_up 1 (align_of shape)))
+  level_lies n each d (map ordered ps) less deep legal known v p same planned s seen alike begun own =
       let shape = tree 5 text node_shape in
       let xs = pairs_in ps in
       let x = tagged 6 (group (values_of_pairs ps)) v same in
       let y = grouped (values_of_pairs ps) x.inner x.same in
       let q = node_planned fit 6 shape x.inner v p x.is refl planned in
       let m = map_planned fit xs y.inner x.inner q.inner y.is (y.same ∙ entry_values fit ps) q.planned in
-      as_part shape p q.inner own (laid s seen) q.is (map_lies w fit xs q.inner m (pairs_tell n each ordered [] ps less legal.0 none) s seen alike begun (own + align_up 1 (align_of shape)))
-  level_lies n each (map hashed ps) less legal none v p same planned s seen alike begun own =
+      as_part shape p q.inner own (laid s seen) q.is (map_lies (by d) w fit xs q.inner m (pairs_tell n each d ordered [] ps less (omega (arith, deep)) legal.0 known) s seen alike begun (own + align_up 1 (align_of shape)))
+  level_lies n each d (map hashed ps) less deep legal known v p same planned s seen alike begun own =
       let shape = table pair_shape in
       let xs = pairs_in ps in
       let vs = by_first_fit (values_of_pairs ps) in
@@ -329,8 +343,8 @@ module _ (fit : Fit) (fills : FillsMaps fit) (w : Spelling Tree NodeResolver) wh
       let filled = fills.hashed_maps ps legal.0 in
       let m = pairs_planned fit xs vs y.inner x.inner q.inner filled y.is y.same q.planned in
       as_part shape p q.inner own (laid s seen) q.is
-      (hashed_lies w fit xs vs q.inner filled m (pairs_tell n each hashed [] ps less legal.0 none) s seen alike begun (own + align_up 1 (align_of shape)))
-  level_lies n each (map kept ps) less legal none v p same planned s seen alike begun own =
+      (hashed_lies (by d) w fit xs vs q.inner filled m (pairs_tell n each d hashed [] ps less (omega (arith, deep)) legal.0 known) s seen alike begun (own + align_up 1 (align_of shape)))
+  level_lies n each d (map kept ps) less deep legal known v p same planned s seen alike begun own =
       let shape = index_map text node_shape in
       let xs = pairs_in ps in
       let x = tagged 8 (group (values_of_pairs ps)) v same in
@@ -339,54 +353,61 @@ module _ (fit : Fit) (fills : FillsMaps fit) (w : Spelling Tree NodeResolver) wh
       let these = ap listed y.same ∙ pairs_listed ps in
       let m = kept_planned fit fills.kept_maps xs y.inner x.inner q.inner y.is these q.planned in
       as_part shape p q.inner own (laid s seen) q.is
-      (kept_lies w fit xs y.inner q.inner these m (pairs_tell n each kept [] ps less legal.0 none) s seen alike begun (own + align_up 1 (align_of shape)))
-  level_lies n each (whole t) less legal none v p same planned s seen alike begun own = absurd (false≢true none)
+      (kept_lies (by d) w fit xs y.inner q.inner these m (pairs_tell n each d kept [] ps less (omega (arith, deep)) legal.0 known) s seen alike begun (own + align_up 1 (align_of shape)))
+  level_lies n each d (whole t) less deep legal known v p same planned s seen alike begun own =
+      let x = tagged 9 (counted 0 (value_of t)) v same in
+      let y = counted_value (value_of t) x.inner x.same in
+      let q = node_planned fit 9 whole_shape x.inner v p x.is refl planned in
+      let m = whole_planned fit y.pos (value_of t) y.inner x.inner q.inner y.is y.same q.planned in
+      let tell = each (depth t) t less (omega arith) legal (listed_numbered wholes t (listed_table wholes is_table) known) in
+      as_part whole_shape p q.inner own (laid s seen) q.is
+      (whole_lies fit wholes is_table w d t deep known tell y.inner m.inner y.same m.planned s seen alike begun (own + align_up 1 (align_of whole_shape)) q.inner m.is)
 
-  level_tells : (n : ℕ) → EachTells n → (t : Tree) → depth t ≤ n → IsLegal t → HasNoWholes t → Tells fit (node_level w) t
-  level_tells n each t less legal none = record {
-    sized = node_length w t none;
-    reads = level_reads n each t less legal none;
-    lies = level_lies n each t less legal none;
+  level_tells : (n : ℕ) → EachTells n → (d : ℕ) (t : Tree) → depth t ≤ n → depth t ≤ d → IsLegal t → IsNumbered wholes t → Tells (by d) fit (node_level wholes w) t
+  level_tells n each d t less deep legal known = record {
+    sized = node_length wholes w t;
+    reads = level_reads n each d t less deep legal known;
+    lies = level_lies n each d t less deep legal known;
   }
 
 -- ---- documents
 
-levels_tell : (fit : Fit) → FillsMaps fit → (n : ℕ) (t : Tree) → depth t ≤ n → IsLegal t → HasNoWholes t → Tells fit (levels_spelling node_level refused (suc n)) t
-levels_tell fit fills zero t less legal none = level_tells fit fills refused zero (λ y h. absurd (omega (arith, h))) t less legal none
-levels_tell fit fills (suc n) t less legal none =
-    level_tells fit fills (levels_spelling node_level refused (suc n)) (suc n) (λ y h. levels_tell fit fills n y (omega (arith, h))) t less legal none
+levels_tell : (fit : Fit) → FillsMaps fit → (wholes : List Tree) (is : IsTable wholes) (n d : ℕ) (t : Tree) → depth t ≤ n → depth t ≤ d → IsLegal t → IsNumbered wholes t → Tells (shares wholes is d) fit (levels_spelling (node_level wholes) refused (suc n)) t
+levels_tell fit fills wholes is zero d t less deep legal known = level_tells fit fills wholes is refused zero (λ e y h. absurd (omega (arith, h))) d t less deep legal known
+levels_tell fit fills wholes is (suc n) d t less deep legal known =
+    level_tells fit fills wholes is (levels_spelling (node_level wholes) refused (suc n)) (suc n) (λ e y h. levels_tell fit fills wholes is n e y (omega (arith, h))) d t less deep legal known
 
-node_tells : (fit : Fit) → FillsMaps fit → (t : Tree) → IsLegal t → HasNoWholes t → Tells fit node_spelling t
-node_tells fit fills t legal none =
-    let h = levels_tell fit fills (depth t) t (omega arith) legal none in
+node_tells : (fit : Fit) → FillsMaps fit → (wholes : List Tree) (is : IsTable wholes) (t : Tree) → IsLegal t → IsNumbered wholes t → Tells (shares wholes is (depth t)) fit (node_spelling wholes) t
+node_tells fit fills wholes is t legal known =
+    let h = levels_tell fit fills wholes is (depth t) (depth t) t (omega arith) (omega arith) legal known in
     record {
       sized = h.sized;
       reads = λ v p same planned s seen alike begun own fs b l.
           let r = h.reads v p same planned s seen alike begun own fs b l in
-          record { alike = r.alike; there = r.there; piece_past = r.piece_past; own_past = r.own_past; refused = r.refused };
+          record { alike = r.alike; spares = r.spares; there = r.there; piece_past = r.piece_past; own_past = r.own_past; refused = r.refused };
       lies = h.lies;
     }
 
 -- ---- the root's region, which no pointer leads to
 
-module _ (fit : Fit) (fills : FillsMaps fit) (t : Tree) (legal : IsLegal t) (none : HasNoWholes t) (v : Value) (same : erased v ≡ value_of t) (e : Error) where
-  tell : Tells fit node_spelling t
-  tell = node_tells fit fills t legal none
+module _ (fit : Fit) (fills : FillsMaps fit) (wholes : List Tree) (is : IsTable wholes) (t : Tree) (legal : IsLegal t) (known : IsNumbered wholes t) (v : Value) (same : erased v ≡ value_of t) (e : Error) where
+  tell : Tells (shares wholes is (depth t)) fit (node_spelling wholes) t
+  tell = node_tells fit fills wholes is t legal known
 
   abbrev AtRoot : List Field → limits.State → Type 0
-  AtRoot within inner = ReadsAll fit node_shape value_of node_spelling (t ∷ []) initial (region_at node_spelling node_shape (t ∷ []) initial) within inner
+  AtRoot within inner = ReadsAll (shares wholes is (depth t)) fit node_shape value_of (node_spelling wholes) (t ∷ []) initial (region_at (node_spelling wholes) node_shape (t ∷ []) initial) within inner
 
-  at_root : (p : Plan) → Planned fit node_shape v p → (within : List Field) (inner : limits.State) → Lies p (region_at node_spelling node_shape (t ∷ []) initial) (laid initial []) within inner → AtRoot within inner
+  at_root : (p : Plan) → Planned fit node_shape v p → (within : List Field) (inner : limits.State) → Lies p (region_at (node_spelling wholes) node_shape (t ∷ []) initial) (laid initial []) within inner → AtRoot within inner
   at_root p planned within inner h =
-      let start = region_at node_spelling node_shape (t ∷ []) initial in
-      one_read fit node_shape value_of node_spelling t initial start within inner (tell.sized (node_spelling.resolver t initial) start) (tell.reads v p same planned initial [] tt refl start within inner h)
+      let start = region_at (node_spelling wholes) node_shape (t ∷ []) initial in
+      one_read (shares wholes is (depth t)) fit node_shape value_of (node_spelling wholes) t initial start within inner (tell.sized ((node_spelling wholes).resolver t initial) start) (tell.reads v p same planned initial [] tt tt start within inner h)
 
   root_past : (within : List Field) (inner : limits.State) → AtRoot within inner
-      → region_refused node_spelling node_shape (t ∷ []) initial e → IsSomePast (within ++ position (region_at node_spelling node_shape (t ∷ []) initial) ∷ []) e
+      → region_refused (node_spelling wholes) node_shape (t ∷ []) initial e → IsSomePast (within ++ position (region_at (node_spelling wholes) node_shape (t ∷ []) initial) ∷ []) e
   root_past within inner h =
-      let start = region_at node_spelling node_shape (t ∷ []) initial in
+      let start = region_at (node_spelling wholes) node_shape (t ∷ []) initial in
       let last : List Field = position start ∷ [] in
-      let up : inner.pos ≤ start = subst (λ n. n ≤ start) (sym h.there) (le_align_up (state_after_all node_spelling (t ∷ []) initial).pos (align_of node_shape)) in
+      let up : inner.pos ≤ start = subst (λ n. n ≤ start) (sym h.there) (le_align_up (state_after_all (node_spelling wholes) (t ∷ []) initial).pos (align_of node_shape)) in
       let high : 2 ^ 32 ≤ start → e ≡ PositionTooLarge → IsSomePast (within ++ last) e = λ far is. past_right within last e (inl (far, is)) in
       ⊎_elim
       (λ r. ⊎_elim (λ p. past_left within last e p) (λ far. high (omega (arith, far.0, up)) far.1) (h.pieces_past e r))
@@ -395,19 +416,19 @@ module _ (fit : Fit) (fills : FillsMaps fit) (t : Tree) (legal : IsLegal t) (non
       (λ r. ⊎_elim (λ p. past_left within last e p) (λ far. high (omega (arith, far.0)) far.1) (h.owns_past e r)))
 
   root_refused : (within : List Field) (inner : limits.State) → AtRoot within inner
-      → IsSomePast (within ++ position (region_at node_spelling node_shape (t ∷ []) initial) ∷ []) e → region_refused node_spelling node_shape (t ∷ []) initial e
+      → IsSomePast (within ++ position (region_at (node_spelling wholes) node_shape (t ∷ []) initial) ∷ []) e → region_refused (node_spelling wholes) node_shape (t ∷ []) initial e
   root_refused within inner h p =
       ⊎_elim
       (λ q. ⊎_elim (λ r. inl r) (λ r. inr (inr r)) (h.refused_all e q))
       (⊎_elim (λ far. inr (inl far)) (λ none. absurd none))
-      (past_either within (position (region_at node_spelling node_shape (t ∷ []) initial) ∷ []) e p)
+      (past_either within (position (region_at (node_spelling wholes) node_shape (t ∷ []) initial) ∷ []) e p)
 
-  pub stored_past : region_refused node_spelling node_shape (t ∷ []) initial e → PastLimits fit node_names node_shape v e
+  pub stored_past : region_refused (node_spelling wholes) node_shape (t ∷ []) initial e → PastLimits fit node_names node_shape v e
   stored_past r =
-      let start = region_at node_spelling node_shape (t ∷ []) initial in
-      let plan = has_plan fit fills t v legal none same in
-      let l = tell.lies v plan.0 same plan.1 initial [] tt refl start in
-      let there = (tell.reads v plan.0 same plan.1 initial [] tt refl start l.0 l.1 l.2).there in
+      let start = region_at (node_spelling wholes) node_shape (t ∷ []) initial in
+      let plan = has_plan fit fills t v legal same in
+      let l = tell.lies v plan.0 same plan.1 initial [] tt tt start in
+      let there = (tell.reads v plan.0 same plan.1 initial [] tt tt start l.0 l.1 l.2).there in
       record {
         fields = l.0 ++ position start ∷ [];
         stores = record {
@@ -423,11 +444,11 @@ module _ (fit : Fit) (fills : FillsMaps fit) (t : Tree) (legal : IsLegal t) (non
         past = root_past l.0 l.1 (at_root plan.0 plan.1 l.0 l.1 l.2) r;
       }
 
-  pub past_refused : PastLimits fit node_names node_shape v e → region_refused node_spelling node_shape (t ∷ []) initial e
+  pub past_refused : PastLimits fit node_names node_shape v e → region_refused (node_spelling wholes) node_shape (t ∷ []) initial e
   past_refused past =
-      let start = region_at node_spelling node_shape (t ∷ []) initial in
+      let start = region_at (node_spelling wholes) node_shape (t ∷ []) initial in
       let x = past.stores in
-      let there = (tell.reads v x.plan same x.has_plan initial [] tt refl x.root x.within x.inner x.lies).there in
+      let there = (tell.reads v x.plan same x.has_plan initial [] tt tt x.root x.within x.inner x.lies).there in
       let begins : x.root ≡ start = x.root_is ∙ ap (λ n. align_up n (align_of node_shape)) there in
       let lies = subst (λ n. Lies x.plan n (laid initial []) x.within x.inner) begins x.lies in
       root_refused x.within x.inner (at_root x.plan x.has_plan x.within x.inner lies)
@@ -436,6 +457,7 @@ module _ (fit : Fit) (fills : FillsMaps fit) (t : Tree) (legal : IsLegal t) (non
 pub refused_is_past_law : RefusedIsPast
 refused_is_past_law t v e document denotes fitted =
     let fit = first_fit text_hash in
-    let same : erased v ≡ value_of t = one_value_law v t document denotes fitted ∙ (node_agrees t).plain in
-    let none = denoted_has_no_wholes denotes in
-    (stored_past fit first_fit_fills t document.0 none v same e, past_refused fit first_fit_fills t document.0 none v same e)
+    let same : erased v ≡ value_of t = one_value_law v t document denotes fitted ∙ (node_agrees (wholes_of t) (document_table t document) t).plain in
+    let wholes = wholes_of t in
+    let is = document_table t document in
+    (stored_past fit first_fit_fills wholes is t document.0 (document_numbered t) v same e, past_refused fit first_fit_fills wholes is t document.0 (document_numbered t) v same e)

@@ -1,14 +1,15 @@
--- The value of a document, by its kinds, is the one that the spelling gives it, except for positions of shared texts.
-use Rattle.std.proofs.Common.{◌≡◌, ℕ, zero, suc, ◌≤◌, List, [], ◌∷◌, length, map as list_map, Some, refl, sym, ap, ap₂, subst, ◌∙◌, arith}
+-- The value of a document, by its kinds, is the one that the spelling gives it, except for positions of shared values.
+use Rattle.std.proofs.Common.{◌≡◌, ℕ, zero, suc, ◌%◌, ◌/◌, ◌==◌, cond, ◌≤◌, List, [], ◌∷◌, length, map as list_map, Option, Some, None, refl, sym, ap, ap₂, subst, ◌∙◌, arith}
+use Rattle.std.specs.Prelude.{IsTrue}
 use Rattle.std.proofs.Math.Nat.{le-max_left, le-max_right}
-use Rattle.archive_forms_values.specs.ShapeLayout.Shape.Pointee.{str}
+use Rattle.archive_forms_values.specs.ShapeLayout.Shape.Pointee.{sized, str}
 use Rattle.archive_forms_values.specs.ShapeLayout.Value.{Value, Values, count_values}
 use Rattle.archive_forms_values.specs.ShapeLayout.Value.Value.{integer, boolean, string, group, chosen, counted}
 use Rattle.archive_forms_values.specs.ShapeLayout.Value.Values.{no_values, more_values}
 use Rattle.archive_forms_values.specs.ShapeCanonical.FirstFit.{ascending, first_fit, keys_in, map_capacity, placed_keys}
 use Rattle.archive_forms_values.specs.ShapeCanonical.Hash.{text_hash}
 use Rattle.archive_forms_values.specs.ShapeCanonical.Sharing.{erased, all_erased}
-use Rattle.archive_forms_values.specs.FormsLaws.State.{Keys, SharedValue, AreOneToOne}
+use Rattle.archive_forms_values.specs.FormsLaws.State.{Keys, SharedValue}
 use Rattle.archive_forms_values.specs.FormsLaws.Spelling.{Spelling}
 use Rattle.archive_forms_values.specs.FormsLaws.Regions.{plain_values, all_suit}
 use Rattle.archive_forms_values.specs.FormsLaws.Levels.{levels_spelling}
@@ -18,22 +19,25 @@ use Rattle.archive_index_spelling.specs.Maps.{IsKeptBy}
 use Rattle.archive_index_spelling.proofs.Kept.{texts_kept}
 use Rattle.cabinet_text_grammar.specs.Keys.{MapKind, ordered, hashed, kept}
 use Rattle.cabinet_text_grammar.specs.TextKey.{text_key, text_of_key}
-use Rattle.cabinet_text_grammar.proofs.KeyLemmas.{key_has_text_law, text_has_key_law}
+use Rattle.cabinet_text_grammar.proofs.KeyLemmas.{key_has_text_law}
+use Rattle.cabinet_text_grammar.proofs.Tables.{numbered_back, listed_table, listed_numbered, document_table}
+use Rattle.cabinet_text_grammar.specs.Wholes.{has, number_in, numbered, wholes_of, IsNumbered, AreNumbered, ArePairsNumbered, IsTable, IsDocument}
 use Rattle.cabinet_text_grammar.specs.Tree as document
 use Rattle.cabinet_text_grammar.specs.Tree.{Tree, Trees, Pairs, leaf, shared, nothing, just, list, map, whole, no_trees, more_trees, no_pairs, more_pairs, depth, most_depth, pairs_depth, IsLegal, AreLegal, ArePairs}
-use Rattle.cabinet_documents.specs.Node.{pair_shape}
+use Rattle.cabinet_documents.specs.Node.{node_shape, pair_shape}
+use Rattle.cabinet_documents.specs.SharedKeys.{key_of_text, key_of_whole}
 use Rattle.cabinet_documents.specs.Denotes.{tagged_value, pair_value, Denotes, DenoteAll, DenotePairs}
-use Rattle.cabinet_documents.specs.Denotes.Denotes.{denotes_truth, denotes_number, denotes_text, denotes_shared, denotes_nothing, denotes_some, denotes_list, denotes_ordered, denotes_hashed, denotes_kept}
+use Rattle.cabinet_documents.specs.Denotes.Denotes.{denotes_truth, denotes_number, denotes_text, denotes_shared, denotes_nothing, denotes_some, denotes_list, denotes_ordered, denotes_hashed, denotes_kept, denotes_whole}
 use Rattle.cabinet_documents.specs.Denotes.DenoteAll.{denote_none, denote_more}
 use Rattle.cabinet_documents.specs.Denotes.DenotePairs.{denote_no_pairs, denote_pair}
 use Rattle.cabinet_documents.specs.declared.spelling.resolver.NodeResolver.{NodeResolver}
 use Rattle.cabinet_documents.specs.Fitted.{IsFitted, AreFitted, ArePairsFitted}
 use Rattle.cabinet_documents.specs.Order.{arranged}
-use Rattle.cabinet_documents.specs.Spelling.{trees_in, pairs_in, pair_spelling, refused, node_level, node_spelling}
+use Rattle.cabinet_documents.specs.Spelling.{trees_in, pairs_in, pair_spelling, refused, node_level, node_spelling, node_value}
 use Rattle.cabinet_documents.specs.SpellingLaws.{OneValue}
 use Rattle.cabinet_documents.proofs.ByKey.{pair_keys, AreDistinct, distinct, distinct_in_order}
 use Rattle.cabinet_documents.proofs.FirstFit.{values_in, by_first_fit, first_fit_mapped, first_fit_plain}
-use Rattle.cabinet_documents.proofs.Fitting.{fitted_some, fitted_list, fitted_ordered, fitted_hashed, fitted_kept, fitted_more, fitted_pair}
+use Rattle.cabinet_documents.proofs.Fitting.{fitted_some, fitted_list, fitted_ordered, fitted_hashed, fitted_kept, fitted_whole, fitted_more, fitted_pair}
 use Rattle.cabinet_documents.proofs.KeyOrder.{ascending_stays}
 use Rattle.cabinet_documents.proofs.PlacedPairs.{pairs_of, keys_listed, pair_hashes, placed_pairs, placed_arranged}
 
@@ -49,7 +53,7 @@ abbrev mutual
   value_of (map ordered ps) = tagged_value 6 (group (values_of_pairs ps))
   value_of (map hashed ps) = tagged_value 7 (group (by_first_fit (values_of_pairs ps)))
   value_of (map kept ps) = tagged_value 8 (group (values_of_pairs ps))
-  value_of (whole t) = group no_values
+  value_of (whole t) = tagged_value 9 (counted 0 (value_of t))
 
   pub values_of : Trees → Values
   values_of no_trees = no_values
@@ -59,46 +63,57 @@ abbrev mutual
   values_of_pairs no_pairs = no_values
   values_of_pairs (more_pairs k t ps) = more_values (pair_value k (value_of t)) (values_of_pairs ps)
 
--- ---- the keys of shared texts
+-- ---- what keys stand for
 
-abbrev shared_as : List ℕ → SharedValue
-shared_as s = record { pointee = str; len = length s; value = string s }
+abbrev pub shared_string : List ℕ → SharedValue
+shared_string s = record { pointee = str; len = length s; value = string s }
 
--- each number is the key of its text
-abbrev pub text_keys : Keys
-text_keys k = Some (shared_as (text_of_key k))
+abbrev pub shared_node : Tree → SharedValue
+shared_node t = record { pointee = sized node_shape; len = 1; value = value_of t }
 
-key_stands : (s : List ℕ) → text_keys (text_key s) ≡ Some (shared_as s)
-key_stands s = ap (λ x. Some (shared_as x)) (key_has_text_law s)
+abbrev pub node_if : Option Tree → Option SharedValue
+node_if None = None
+node_if (Some t) = Some (shared_node t)
 
-same_text : {s r : List ℕ} → string s ≡ string r → s ≡ r
-same_text e = cc
+-- an even key stands for a text, and an odd one for the tree of a table with a number, if there is one
+abbrev pub keys_of : List Tree → Keys
+keys_of table k = cond (k % 2 == 0) (Some (shared_string (text_of_key (k / 2)))) (node_if (numbered table (k / 2)))
 
--- no two keys have one text
-pub text_keys_differ : AreOneToOne text_keys
-text_keys_differ k l a b e f same_type same =
-    let first : shared_as (text_of_key k) ≡ a = cc in
-    let second : shared_as (text_of_key l) ≡ b = cc in
-    let texts : text_of_key k ≡ text_of_key l = same_text (ap (λ (x : SharedValue). x.value) first ∙ same ∙ sym (ap (λ (x : SharedValue). x.value) second)) in
-    sym (text_has_key_law k) ∙ ap text_key texts ∙ text_has_key_law l
+pub texts_stand : (table : List Tree) (s : List ℕ) → keys_of table (key_of_text s) ≡ Some (shared_string s)
+texts_stand table s =
+    let even : key_of_text s % 2 ≡ 0 = omega arith in
+    let half : key_of_text s / 2 ≡ text_key s = omega arith in
+    let rest = node_if (numbered table (key_of_text s / 2)) in
+    ap (λ n. cond (n == 0) (Some (shared_string (text_of_key (key_of_text s / 2)))) rest) even
+    ∙ ap (λ n. Some (shared_string (text_of_key n))) half
+    ∙ ap (λ t. Some (shared_string t)) (key_has_text_law s)
 
--- ---- a spelling gives a document this value, and its tables are by first fit, and shared texts under their keys
+pub wholes_stand : (table : List Tree) (t : Tree) → IsTrue (has table t) → keys_of table (key_of_whole table t) ≡ Some (shared_node t)
+wholes_stand table t there =
+    let k = key_of_whole table t in
+    let odd : k % 2 ≡ 1 = omega arith in
+    let half : k / 2 ≡ number_in table t = omega arith in
+    ap (λ n. cond (n == 0) (Some (shared_string (text_of_key (k / 2)))) (node_if (numbered table (k / 2)))) odd
+    ∙ ap (λ n. node_if (numbered table n)) half
+    ∙ ap node_if (numbered_back table t there)
 
-pub record Agrees (w : Spelling Tree NodeResolver) (t : Tree) : Type 0 where
+-- ---- a spelling gives a document this value, and its tables are by first fit, and shared values under their keys
+
+pub record Agrees (table : List Tree) (w : Spelling Tree NodeResolver) (t : Tree) : Type 0 where
   pub plain : w.plain t ≡ value_of t
-  pub suits : IsLegal t → w.suits (first_fit text_hash) text_keys t
+  pub suits : IsLegal t → IsNumbered table t → w.suits (first_fit text_hash) (keys_of table) t
 
-record AllAgree (w : Spelling Tree NodeResolver) (ts : Trees) : Type 0 where
+record AllAgree (table : List Tree) (w : Spelling Tree NodeResolver) (ts : Trees) : Type 0 where
   plain : plain_values w (trees_in ts) ≡ values_of ts
-  suits : AreLegal ts → all_suit w (first_fit text_hash) text_keys (trees_in ts)
+  suits : AreLegal ts → AreNumbered table ts → all_suit w (first_fit text_hash) (keys_of table) (trees_in ts)
 
-record PairsAgree (w : Spelling Tree NodeResolver) (ps : Pairs) : Type 0 where
+record PairsAgree (table : List Tree) (w : Spelling Tree NodeResolver) (ps : Pairs) : Type 0 where
   plain : plain_values (pair_spelling w) (pairs_in ps) ≡ values_of_pairs ps
-  suits : (kind : MapKind) (before : List (List ℕ)) → ArePairs kind before ps → all_suit (pair_spelling w) (first_fit text_hash) text_keys (pairs_in ps)
+  suits : (kind : MapKind) (before : List (List ℕ)) → ArePairs kind before ps → ArePairsNumbered table ps → all_suit (pair_spelling w) (first_fit text_hash) (keys_of table) (pairs_in ps)
 
-module _ (w : Spelling Tree NodeResolver) where
-  all_agree : (n : ℕ) → ((y : Tree) → depth y ≤ n → Agrees w y) → (ts : Trees) → most_depth ts ≤ n → AllAgree w ts
-  all_agree n each no_trees less = record { plain = refl; suits = λ legal. tt }
+module _ (table : List Tree) (is : IsTable table) (w : Spelling Tree NodeResolver) where
+  all_agree : (n : ℕ) → ((y : Tree) → depth y ≤ n → Agrees table w y) → (ts : Trees) → most_depth ts ≤ n → AllAgree table w ts
+  all_agree n each no_trees less = record { plain = refl; suits = λ legal known. tt }
   all_agree n each (more_trees t ts) less =
       let a = le-max_left (depth t) (most_depth ts) in
       let b = le-max_right (depth t) (most_depth ts) in
@@ -106,11 +121,11 @@ module _ (w : Spelling Tree NodeResolver) where
       let rest = all_agree n each ts (omega (arith, b)) in
       record {
         plain = ap₂ more_values first.plain rest.plain;
-        suits = λ legal. (first.suits legal.0, rest.suits legal.1);
+        suits = λ legal known. (first.suits legal.0 known.0, rest.suits legal.1 known.1);
       }
 
-  pairs_agree : (n : ℕ) → ((y : Tree) → depth y ≤ n → Agrees w y) → (ps : Pairs) → pairs_depth ps ≤ n → PairsAgree w ps
-  pairs_agree n each no_pairs less = record { plain = refl; suits = λ kind before legal. tt }
+  pairs_agree : (n : ℕ) → ((y : Tree) → depth y ≤ n → Agrees table w y) → (ps : Pairs) → pairs_depth ps ≤ n → PairsAgree table w ps
+  pairs_agree n each no_pairs less = record { plain = refl; suits = λ kind before legal known. tt }
   pairs_agree n each (more_pairs k t ps) less =
       let a = le-max_left (depth t) (pairs_depth ps) in
       let b = le-max_right (depth t) (pairs_depth ps) in
@@ -118,7 +133,7 @@ module _ (w : Spelling Tree NodeResolver) where
       let rest = pairs_agree n each ps (omega (arith, b)) in
       record {
         plain = ap₂ (λ (v : Value) (vs : Values). more_values (pair_value k v) vs) first.plain rest.plain;
-        suits = λ kind before legal. ((tt, (first.suits legal.1.0, tt)), rest.suits kind (k ∷ before) legal.1.1);
+        suits = λ kind before legal known. ((tt, (first.suits legal.1.0 known.0, tt)), rest.suits kind (k ∷ before) legal.1.1 known.1);
       }
 
   -- first fit fills a kept map as it is written
@@ -126,12 +141,12 @@ module _ (w : Spelling Tree NodeResolver) where
   pairs_kept xs =
       texts_kept pair_shape (pair_spelling w) (λ x. x.0) (λ x. record { rest = more_values (w.plain x.1) no_values; is = refl }) (λ x. text_hash x.0) (λ x. refl) xs
 
-  level_agrees : (n : ℕ) → ((y : Tree) → suc (depth y) ≤ n → Agrees w y) → (t : Tree) → depth t ≤ n → Agrees (node_level w) t
-  level_agrees n each (leaf (document.truth b)) less = record { plain = refl; suits = λ legal. tt }
-  level_agrees n each (leaf (document.number z)) less = record { plain = refl; suits = λ legal. tt }
-  level_agrees n each (leaf (document.text s)) less = record { plain = refl; suits = λ legal. tt }
-  level_agrees n each (shared s) less = record { plain = refl; suits = λ legal. (key_stands s, tt) }
-  level_agrees n each nothing less = record { plain = refl; suits = λ legal. tt }
+  level_agrees : (n : ℕ) → ((y : Tree) → suc (depth y) ≤ n → Agrees table w y) → (t : Tree) → depth t ≤ n → Agrees table (node_level table w) t
+  level_agrees n each (leaf (document.truth b)) less = record { plain = refl; suits = λ legal known. tt }
+  level_agrees n each (leaf (document.number z)) less = record { plain = refl; suits = λ legal known. tt }
+  level_agrees n each (leaf (document.text s)) less = record { plain = refl; suits = λ legal known. tt }
+  level_agrees n each (shared s) less = record { plain = refl; suits = λ legal known. (texts_stand table s, tt) }
+  level_agrees n each nothing less = record { plain = refl; suits = λ legal known. tt }
   level_agrees n each (just t) less =
       let one = each t less in
       record {
@@ -143,14 +158,14 @@ module _ (w : Spelling Tree NodeResolver) where
       let all = all_agree n (λ y h. each y (omega (arith, h))) ts (omega (arith, less)) in
       record {
         plain = ap (λ vs. tagged_value 5 (group vs)) all.plain;
-        suits = λ legal. all.suits legal.0;
+        suits = λ legal known. all.suits legal.0 known;
       }
   level_agrees zero each (map kind ps) less = absurd (omega (arith, less))
   level_agrees (suc n) each (map ordered ps) less =
       let all = pairs_agree n (λ y h. each y (omega (arith, h))) ps (omega (arith, less)) in
       record {
         plain = ap (λ vs. tagged_value 6 (group vs)) all.plain;
-        suits = λ legal. all.suits ordered [] legal.0;
+        suits = λ legal known. all.suits ordered [] legal.0 known;
       }
   level_agrees (suc n) each (map hashed ps) less =
       let pairs = pair_spelling w in
@@ -160,8 +175,8 @@ module _ (w : Spelling Tree NodeResolver) where
       let ascend = λ (legal : ArePairs hashed [] ps). ap ascending (keys_listed ps) ∙ ascending_stays [] ps legal ∙ sym (keys_listed ps) in
       record {
         plain = ap (λ vs. tagged_value 7 (group vs)) (first_fit_plain pairs (λ x. x.0) (λ x. refl) xs ∙ ap by_first_fit all.plain);
-        suits = λ legal. (
-          all_suit_placed pairs (first_fit text_hash) text_keys (capacity_of 7 8 hashes xs) (places_of 7 8 hashes xs) xs (all.suits hashed [] legal.0),
+        suits = λ legal known. (
+          all_suit_placed pairs (first_fit text_hash) (keys_of table) (capacity_of 7 8 hashes xs) (places_of 7 8 hashes xs) xs (all.suits hashed [] legal.0 known),
           filled_by pairs (λ x. x.0) (λ x. refl) pair_shape text_hash xs (ascend legal.0),
         );
       }
@@ -169,16 +184,29 @@ module _ (w : Spelling Tree NodeResolver) where
       let all = pairs_agree n (λ y h. each y (omega (arith, h))) ps (omega (arith, less)) in
       record {
         plain = ap (λ vs. tagged_value 8 (group vs)) all.plain;
-        suits = λ legal. (all.suits kept [] legal.0, pairs_kept (pairs_in ps));
+        suits = λ legal known. (all.suits kept [] legal.0 known, pairs_kept (pairs_in ps));
       }
-  level_agrees n each (whole t) less = record { plain = refl; suits = λ legal. tt }
+  level_agrees n each (whole t) less =
+      let one = each t less in
+      record {
+        plain = ap (λ v. tagged_value 9 (counted 0 v)) one.plain;
+        suits = λ legal known. (
+          wholes_stand table t known ∙ ap (λ v. Some (record { pointee = sized node_shape; len = 1; value = v })) (sym one.plain),
+          one.suits legal (listed_numbered table t (listed_table table is) known),
+        );
+      }
 
-levels_agree : (n : ℕ) (t : Tree) → depth t ≤ n → Agrees (levels_spelling node_level refused (suc n)) t
-levels_agree zero t less = level_agrees refused zero (λ y h. absurd (omega (arith, h))) t less
-levels_agree (suc n) t less = level_agrees (levels_spelling node_level refused (suc n)) (suc n) (λ y h. levels_agree n y (omega (arith, h))) t less
+levels_agree : (table : List Tree) → IsTable table → (n : ℕ) (t : Tree) → depth t ≤ n → Agrees table (levels_spelling (node_level table) refused (suc n)) t
+levels_agree table is zero t less = level_agrees table is refused zero (λ y h. absurd (omega (arith, h))) t less
+levels_agree table is (suc n) t less =
+    level_agrees table is (levels_spelling (node_level table) refused (suc n)) (suc n) (λ y h. levels_agree table is n y (omega (arith, h))) t less
 
-pub node_agrees : (t : Tree) → Agrees node_spelling t
-node_agrees t = let h = levels_agree (depth t) t (omega arith) in record { plain = h.plain; suits = h.suits }
+pub node_agrees : (table : List Tree) → IsTable table → (t : Tree) → Agrees table (node_spelling table) t
+node_agrees table is t = let h = levels_agree table is (depth t) t (omega arith) in record { plain = h.plain; suits = h.suits }
+
+-- of a document under its own table
+pub node_value_is : (t : Tree) → IsDocument t → node_value t ≡ value_of t
+node_value_is t document = (node_agrees (wholes_of t) (document_table t document) t).plain
 
 -- ---- a map's pairs by place
 
@@ -198,7 +226,7 @@ pub first_fit_pairs : (ps : Pairs) → by_first_fit (values_of_pairs ps) ≡ val
 first_fit_pairs ps =
     ap by_first_fit (pairs_are ps) ∙ first_fit_mapped entry_value (λ p. p.0) (λ p. refl) (pairs_in ps) ∙ values_are (by_place 7 8 (pair_hashes (pairs_in ps)) (pairs_in ps))
 
--- ---- no other value denotes it, except for the positions of shared texts
+-- ---- no other value denotes it, except for the positions of shared values
 
 keys_denoted : {vs : Values} {ps : Pairs} → DenotePairs vs ps → keys_in vs ≡ pair_keys ps
 keys_denoted (denote_no_pairs e f) = ap keys_in e ∙ sym (ap pair_keys f)
@@ -236,6 +264,8 @@ mutual
   only v t l (denotes_kept {vs = vs} {ps = ps} e f d) i =
       let legal = subst IsLegal f l in
       ap erased e ∙ (ap (λ x. tagged_value 8 (group x)) (pairs_only vs ps (distinct kept [] ps legal.0) d (fitted_kept i e)) ∙ sym (ap value_of f))
+  only v t l (denotes_whole {w = w} {u = u} e f d) i =
+      ap erased e ∙ (ap (λ x. tagged_value 9 (counted 0 x)) (only w u (subst IsLegal f l) d (fitted_whole i e)) ∙ sym (ap value_of f))
 
   all_only : (vs : Values) (ts : Trees) → AreLegal ts → DenoteAll vs ts → AreFitted vs → all_erased vs ≡ values_of ts
   all_only vs ts l (denote_none e f) i = ap all_erased e ∙ sym (ap values_of f)
@@ -253,4 +283,4 @@ mutual
       ∙ (ap₂ (λ (x : Value) (xs : Values). more_values (pair_value k x) xs) (only v t legal.1 d fit.0) (pairs_only vs ps legal.2 ds fit.1) ∙ sym (ap values_of_pairs f))
 
 pub one_value_law : OneValue
-one_value_law v t document d fit = only v t document.0 d fit ∙ sym (node_agrees t).plain
+one_value_law v t document d fit = only v t document.0 d fit ∙ sym (node_value_is t document)

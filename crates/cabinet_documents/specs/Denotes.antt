@@ -5,7 +5,7 @@ use Rattle.archive_forms_values.specs.ShapeLayout.Value.Value.{integer, boolean,
 use Rattle.archive_forms_values.specs.ShapeLayout.Value.Values.{no_values, more_values}
 use Rattle.cabinet_text_grammar.specs.Tree.{truth, number, text}
 use Rattle.cabinet_text_grammar.specs.Keys.{ordered, hashed, kept}
-use Rattle.cabinet_text_grammar.specs.Tree.{Tree, leaf, shared, nothing, just, list, Trees, no_trees, more_trees, Pairs, no_pairs, more_pairs, map}
+use Rattle.cabinet_text_grammar.specs.Tree.{Tree, leaf, shared, nothing, just, list, Trees, no_trees, more_trees, Pairs, no_pairs, more_pairs, map, whole}
 use Rattle.cabinet_documents.specs.Order.{arranged}
 
 -- a tag and the value of its payload
@@ -17,8 +17,8 @@ abbrev pub pair_value : List ℕ → Value → Value
 pair_value k v = group (more_values (string k) (more_values v no_values))
 
 mutual
-  -- by the nine tags; the position of a shared text is left out, and a hashed map's pairs are put in the order of their
-  -- keys; no value denotes a whole
+  -- by the ten tags; the positions of shared texts and of wholes are left out, and a hashed map's pairs are put in the
+  -- order of their keys
   pub data Denotes : Value → Tree → Type 0 where
     denotes_truth : {v : Value} {t : Tree} {b : Bool} → v ≡ tagged_value 0 (boolean b) → t ≡ leaf (truth b) → Denotes v t
     denotes_number : {v : Value} {t : Tree} {n : ℤ} → v ≡ tagged_value 1 (integer n) → t ≡ leaf (number n) → Denotes v t
@@ -30,6 +30,7 @@ mutual
     denotes_ordered : {v : Value} {t : Tree} {vs : Values} {ps : Pairs} → v ≡ tagged_value 6 (group vs) → t ≡ map ordered ps → DenotePairs vs ps → Denotes v t
     denotes_hashed : {v : Value} {t : Tree} {vs : Values} {ps : Pairs} → v ≡ tagged_value 7 (group vs) → t ≡ map hashed (arranged ps) → DenotePairs vs ps → Denotes v t
     denotes_kept : {v : Value} {t : Tree} {vs : Values} {ps : Pairs} → v ≡ tagged_value 8 (group vs) → t ≡ map kept ps → DenotePairs vs ps → Denotes v t
+    denotes_whole : {v w : Value} {t u : Tree} {at : ℕ} → v ≡ tagged_value 9 (counted at w) → t ≡ whole u → Denotes w u → Denotes v t
 
   pub data DenoteAll : Values → Trees → Type 0 where
     denote_none : {vs : Values} {ts : Trees} → vs ≡ no_values → ts ≡ no_trees → DenoteAll vs ts

@@ -1,7 +1,7 @@
 -- The values of documents in which the pairs of each hashed map are in the order that first fit gives them.
 use Rattle.std.specs.Prelude.{◌≡◌, ℕ, ◌≤◌, List}
 use Rattle.archive_forms_values.specs.ShapeLayout.Value.{Value, Values, count_values}
-use Rattle.archive_forms_values.specs.ShapeLayout.Value.Value.{group, chosen}
+use Rattle.archive_forms_values.specs.ShapeLayout.Value.Value.{group, chosen, counted}
 use Rattle.archive_forms_values.specs.ShapeLayout.Value.Values.{no_values, more_values}
 use Rattle.archive_forms_values.specs.ShapeCanonical.FirstFit.{ascending, keys_in, map_capacity, placed_keys}
 use Rattle.archive_forms_values.specs.ShapeCanonical.Hash.{text_hash}
@@ -12,7 +12,7 @@ abbrev pub AreFirstFit : Values → Type 0
 AreFirstFit vs = keys_in vs ≡ placed_keys text_hash (map_capacity (count_values vs)) (ascending (keys_in vs))
 
 mutual
-  -- by the tags of the nine kinds
+  -- by the tags of the ten kinds
   pub data IsFitted : Value → Type 0 where
     leaf_is_fitted : {v w : Value} {tag : ℕ} → v ≡ tagged_value tag w → tag ≤ 3 → IsFitted v
     nothing_is_fitted : {v : Value} → v ≡ tagged_value 4 (chosen 0 no_values) → IsFitted v
@@ -21,6 +21,7 @@ mutual
     ordered_is_fitted : {v : Value} {vs : Values} → v ≡ tagged_value 6 (group vs) → ArePairsFitted vs → IsFitted v
     hashed_is_fitted : {v : Value} {vs : Values} → v ≡ tagged_value 7 (group vs) → AreFirstFit vs → ArePairsFitted vs → IsFitted v
     kept_is_fitted : {v : Value} {vs : Values} → v ≡ tagged_value 8 (group vs) → ArePairsFitted vs → IsFitted v
+    whole_is_fitted : {v w : Value} {at : ℕ} → v ≡ tagged_value 9 (counted at w) → IsFitted w → IsFitted v
 
   pub data AreFitted : Values → Type 0 where
     none_are_fitted : {vs : Values} → vs ≡ no_values → AreFitted vs

@@ -1,5 +1,5 @@
 -- Laws of the archives of documents, as statements.
-use Rattle.std.specs.Prelude.{◌≡◌, ◌≢◌, ℕ, pos, List, [], ◌∷◌, ◌++◌, length, Some, ⊤}
+use Rattle.std.specs.Prelude.{◌≡◌, ◌≢◌, ℕ, ◌<◌, ◌^◌, false, pos, List, [], ◌∷◌, ◌++◌, length, Some, ⊤}
 use Rattle.archive_forms_values.specs.ShapeLayout.Value.{Value}
 use Rattle.archive_forms_values.specs.ShapeLayout.Content.{Names, Part}
 use Rattle.archive_forms_values.specs.ShapeLayout.Shape.{Shape}
@@ -17,7 +17,7 @@ use Rattle.cabinet_text_grammar.specs.Path.{Step}
 use Rattle.cabinet_documents.specs.Node.{node_names, node_shape, own_bytes}
 use Rattle.cabinet_text_grammar.specs.Tree.{Tree, leaf}
 use Rattle.cabinet_text_grammar.specs.Wholes.{IsDocument}
-use Rattle.cabinet_text_grammar.specs.Path.{node_at}
+use Rattle.cabinet_text_grammar.specs.Path.{node_at, enters}
 use Rattle.cabinet_text_grammar.specs.Answering.{change}
 use Rattle.cabinet_documents.specs.Done.{IsDone}
 use Rattle.cabinet_documents.specs.Walk.{Stop, Walks}
@@ -87,11 +87,13 @@ pub record IsAccepted (bytes : List ℕ) : Type 0 where
   pub tree : Tree
   pub accepted : Accepted bytes tree
 
--- bytes at whose root a node holds, with a walk in which the audit finds no fault, are the archive of a document
+-- bytes that are counted in 64 bits, at whose root a node holds, with a walk in which the audit finds no fault, are the
+-- archive of a document
 abbrev pub AcceptedStands : Type 0
 AcceptedStands =
     (bytes : List ℕ) (v : Value) (regions : List Region) (visits : List Visit) (walk : List Stop)
     → AreBytes bytes
+    → length bytes < 2 ^ 64
     → HasRoot node_names bytes (root_position (length bytes) node_shape) node_shape v regions visits
     → Walks node_names bytes 0 (root_part bytes) v walk
     → faults bytes walk ≡ []
@@ -109,6 +111,7 @@ abbrev pub AuditDecides : Type 0
 AuditDecides =
     (bytes : List ℕ) (v : Value) (regions : List Region) (visits : List Visit)
     → AreBytes bytes
+    → length bytes < 2 ^ 64
     → HasRoot node_names bytes (root_position (length bytes) node_shape) node_shape v regions visits
     → AuditDecided bytes v
 
@@ -129,7 +132,7 @@ LeafPut =
     → IsDone t path new
     → Denotes (put_at (inner ++ 0 ∷ []) (payload_of new) v) (change t path new)
 
--- the leaf at a path has own bytes
+-- the leaf at a path that leads into no whole has own bytes
 pub record OwnBytesStand (bytes : List ℕ) (root : Value) (path : List Step) (size : ℕ) : Type 0 where
   pub start : ℕ
   pub own : OwnBytes bytes root path start size
@@ -139,6 +142,7 @@ LeavesStand =
     (bytes : List ℕ) (t : Tree) (path : List Step) (l : Leaf)
     → (a : Accepted bytes t)
     → node_at t path ≡ Some (leaf l)
+    → enters t path ≡ false
     → OwnBytesStand bytes a.value path (length (own_bytes l))
 
 -- where an edit may be done, writing its leaf over the own bytes of the old one leaves an archive of the document with

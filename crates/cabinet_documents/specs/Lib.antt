@@ -6,12 +6,12 @@ pub mod Done
 pub mod Fitted
 pub mod Image
 pub mod Laws
-pub mod NoWholes
 pub mod Node
 pub mod Order
 pub mod OwnBytes
 pub mod ShapeCanonical
 pub mod ShapeLayout
+pub mod SharedKeys
 pub mod Spelling
 pub mod SpellingLaws
 pub mod Table

@@ -17,8 +17,12 @@ node_shape = named 0 24 eight
 abbrev pub pair_shape : Shape
 pair_shape = tuple (more_shapes text (more_shapes node_shape no_shapes))
 
+-- a whole: several pointers may point to one node, and none lies inside what it points to
+abbrev pub whole_shape : Shape
+whole_shape = shared false (sized node_shape)
+
 -- in the order of the tags, from 0: a truth value, a number, a text, a shared text, an option, a list, an ordered map,
--- a hashed map, and a map that keeps its order; several pointers may point to one shared text, and none lies inside it
+-- a hashed map, a map that keeps its order, and a whole; several pointers may point to one shared text
 abbrev pub payloads : Shapes
 payloads =
     more_shapes truth
@@ -29,7 +33,8 @@ payloads =
     (more_shapes (vector node_shape)
     (more_shapes (tree 5 text node_shape)
     (more_shapes (table pair_shape)
-    (more_shapes (index_map text node_shape) no_shapes))))))))
+    (more_shapes (index_map text node_shape)
+    (more_shapes whole_shape no_shapes)))))))))
 
 abbrev pub node_names : Names
 node_names = (0, choice payloads) ∷ []

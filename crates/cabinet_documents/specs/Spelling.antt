@@ -17,7 +17,7 @@ use Rattle.archive_forms_values.specs.FormsLaws.Pointers.{box_spelling, slice_sp
 use Rattle.archive_forms_values.specs.FormsLaws.Options.{option_spelling}
 use Rattle.archive_forms_values.specs.FormsLaws.Payloads.{payload_spelling}
 use Rattle.archive_forms_values.specs.FormsLaws.Fields.{tuple2_spelling}
-use Rattle.archive_forms_values.specs.FormsLaws.Shared.{shared_text_spelling}
+use Rattle.archive_forms_values.specs.FormsLaws.Shared.{shared_text_spelling, shared_value_spelling}
 use Rattle.archive_forms_values.specs.FormsLaws.Levels.{self_spelling}
 use Rattle.archive_forms_values.specs.declared.reading.resolving.BoxResolver.{BoxResolver}
 use Rattle.archive_forms_values.specs.declared.reading.resolving.VecResolver.{VecResolver}
@@ -30,10 +30,11 @@ use Rattle.archive_hash_writing.specs.Tables.{table_spelling}
 use Rattle.archive_index_spelling.specs.Resolvers.{pairs_spelling}
 use Rattle.archive_index_spelling.specs.declared.resolver.IndexMapResolver.{IndexMapResolver}
 use Rattle.cabinet_text_grammar.specs.Keys.{ordered, hashed, kept}
-use Rattle.cabinet_text_grammar.specs.TextKey.{text_key}
 use Rattle.cabinet_text_grammar.specs.Tree as document
 use Rattle.cabinet_text_grammar.specs.Tree.{Tree, Trees, Pairs, leaf, shared, nothing, just, list, map, whole, no_trees, more_trees, no_pairs, more_pairs, depth}
-use Rattle.cabinet_documents.specs.Node.{node_shape, pair_shape, payloads}
+use Rattle.cabinet_text_grammar.specs.Wholes.{wholes_of}
+use Rattle.cabinet_documents.specs.Node.{node_shape, pair_shape, whole_shape, payloads}
+use Rattle.cabinet_documents.specs.SharedKeys.{key_of_text, key_of_whole}
 use Rattle.cabinet_documents.specs.declared.spelling.resolver.NodeResolver.{NodeResolver}
 use Rattle.cabinet_documents.specs.declared.spelling.resolver.NodeResolver.TheVariants as resolver
 use Rattle.archive_forms_rc.specs.FormsWriting.Owned.{str_spelling}
@@ -46,9 +47,9 @@ truth_spelling = leaf_spelling truth truth_bytes boolean
 abbrev pub number_spelling : Spelling ℤ (Unit {0})
 number_spelling = leaf_spelling (number w64 true) (λ n. to_le_bytes w64 (cast_unsigned w64 n)) integer
 
--- a counted pointer to a text, which is written once under the text's number
+-- a counted pointer to a text, which is written once under its number
 abbrev pub shared_string_spelling : Spelling (List ℕ) RcResolver
-shared_string_spelling = kept_as (λ n. record { pos = n }) (λ r. r.pos) (shared_text_spelling text_key)
+shared_string_spelling = kept_as (λ n. record { pos = n }) (λ r. r.pos) (shared_text_spelling key_of_text)
 
 abbrev pub boxed_shape : Shape
 boxed_shape = box (sized node_shape)
@@ -84,6 +85,10 @@ hashed_spelling w = kept_as (λ o. record { pos = o }) (λ r. r.pos) (table_spel
 abbrev pub kept_spelling : Spelling Tree NodeResolver → Spelling (List (List ℕ × Tree)) IndexMapResolver
 kept_spelling w = pairs_spelling text_hash text node_shape str_spelling w
 
+-- a counted pointer to the node in a whole, which is written once under its number
+abbrev pub whole_spelling : List Tree → Spelling Tree NodeResolver → Spelling Tree RcResolver
+whole_spelling wholes w = kept_as (λ n. record { pos = n }) (λ r. r.pos) (shared_value_spelling node_shape (key_of_whole wholes) w)
+
 abbrev pub pairs_in : Pairs → List (List ℕ × Tree)
 pairs_in no_pairs = []
 pairs_in (more_pairs k t ps) = (k, t) ∷ pairs_in ps
@@ -118,6 +123,10 @@ abbrev pub kept_in : NodeResolver → IndexMapResolver
 kept_in (resolver.Kept r) = r
 kept_in _ = record { table = record { pos = None }; entries = None }
 
+abbrev pub whole_in : NodeResolver → RcResolver
+whole_in (resolver.Whole r) = r
+whole_in _ = record { pos = 0 }
+
 -- ---- nodes
 
 -- a payload after a tag, at its alignment in the 24 bytes of a node
@@ -125,7 +134,7 @@ abbrev pub node_of : {A R : Type 0} → ℕ → Shape → Spelling A R → (R �
 node_of tag s w make get x =
     kept_as make get (seen_as (λ _. x) (payload_spelling tag (align_up 1 (align_of s)) (size_of (choice payloads)) w))
 
--- of a whole, and where no level is left, nothing is archived; a document has as many levels as it is deep
+-- where no level is left, nothing is archived; a document has as many levels as it is deep
 abbrev pub refused : Spelling Tree NodeResolver
 refused = record {
   value = λ t st. group no_values;
@@ -141,40 +150,41 @@ refused = record {
   suits = λ fit keys t. ⊤;
 }
 
--- the spelling of one document, where the documents in it are archived by `w`
-abbrev pub spelling_of : Spelling Tree NodeResolver → Tree → Spelling Tree NodeResolver
-spelling_of w (leaf (document.truth b)) = node_of 0 truth truth_spelling (λ _. resolver.Leaf) (λ _. tt) b
-spelling_of w (leaf (document.number n)) = node_of 1 (number w64 true) number_spelling (λ _. resolver.Leaf) (λ _. tt) n
-spelling_of w (leaf (document.text s)) = node_of 2 text str_spelling resolver.Text text_in s
-spelling_of w (shared s) = node_of 3 (shared_shape false str) shared_string_spelling resolver.Shared shared_in s
-spelling_of w nothing = node_of 4 (option boxed_shape) (maybe_spelling w) resolver.Maybe maybe_in None
-spelling_of w (just t) = node_of 4 (option boxed_shape) (maybe_spelling w) resolver.Maybe maybe_in (Some t)
-spelling_of w (list ts) = node_of 5 (vector node_shape) (list_spelling w) resolver.List list_in (trees_in ts)
-spelling_of w (map ordered ps) = node_of 6 (tree 5 text node_shape) (ordered_spelling w) resolver.Ordered ordered_in (pairs_in ps)
-spelling_of w (map hashed ps) = node_of 7 (table pair_shape) (hashed_spelling w) resolver.Hashed hashed_in (pairs_in ps)
-spelling_of w (map kept ps) = node_of 8 (index_map text node_shape) (kept_spelling w) resolver.Kept kept_in (pairs_in ps)
-spelling_of w (whole t) = refused
+-- the spelling of one document, where the documents in it are archived by `w`, and wholes have the numbers of their trees
+-- in a table
+abbrev pub spelling_of : List Tree → Spelling Tree NodeResolver → Tree → Spelling Tree NodeResolver
+spelling_of wholes w (leaf (document.truth b)) = node_of 0 truth truth_spelling (λ _. resolver.Leaf) (λ _. tt) b
+spelling_of wholes w (leaf (document.number n)) = node_of 1 (number w64 true) number_spelling (λ _. resolver.Leaf) (λ _. tt) n
+spelling_of wholes w (leaf (document.text s)) = node_of 2 text str_spelling resolver.Text text_in s
+spelling_of wholes w (shared s) = node_of 3 (shared_shape false str) shared_string_spelling resolver.Shared shared_in s
+spelling_of wholes w nothing = node_of 4 (option boxed_shape) (maybe_spelling w) resolver.Maybe maybe_in None
+spelling_of wholes w (just t) = node_of 4 (option boxed_shape) (maybe_spelling w) resolver.Maybe maybe_in (Some t)
+spelling_of wholes w (list ts) = node_of 5 (vector node_shape) (list_spelling w) resolver.List list_in (trees_in ts)
+spelling_of wholes w (map ordered ps) = node_of 6 (tree 5 text node_shape) (ordered_spelling w) resolver.Ordered ordered_in (pairs_in ps)
+spelling_of wholes w (map hashed ps) = node_of 7 (table pair_shape) (hashed_spelling w) resolver.Hashed hashed_in (pairs_in ps)
+spelling_of wholes w (map kept ps) = node_of 8 (index_map text node_shape) (kept_spelling w) resolver.Kept kept_in (pairs_in ps)
+spelling_of wholes w (whole t) = node_of 9 whole_shape (whole_spelling wholes w) resolver.Whole whole_in t
 
 -- the spelling of each document, by its case
-abbrev pub node_level : Spelling Tree NodeResolver → Spelling Tree NodeResolver
-node_level w = record {
-  value = λ t st. (spelling_of w t).value t st;
-  plain = λ t. (spelling_of w t).plain t;
-  piece = λ t st. (spelling_of w t).piece t st;
-  resolver = λ t st. (spelling_of w t).resolver t st;
-  met = λ t st. (spelling_of w t).met t st;
-  own = λ t r pos. (spelling_of w t).own t r pos;
-  piece_fits = λ t st. (spelling_of w t).piece_fits t st;
-  piece_refused = λ t st e. (spelling_of w t).piece_refused t st e;
-  own_fits = λ t r pos. (spelling_of w t).own_fits t r pos;
-  own_refused = λ t r pos e. (spelling_of w t).own_refused t r pos e;
-  suits = λ fit keys t. (spelling_of w t).suits fit keys t;
+abbrev pub node_level : List Tree → Spelling Tree NodeResolver → Spelling Tree NodeResolver
+node_level wholes w = record {
+  value = λ t st. (spelling_of wholes w t).value t st;
+  plain = λ t. (spelling_of wholes w t).plain t;
+  piece = λ t st. (spelling_of wholes w t).piece t st;
+  resolver = λ t st. (spelling_of wholes w t).resolver t st;
+  met = λ t st. (spelling_of wholes w t).met t st;
+  own = λ t r pos. (spelling_of wholes w t).own t r pos;
+  piece_fits = λ t st. (spelling_of wholes w t).piece_fits t st;
+  piece_refused = λ t st e. (spelling_of wholes w t).piece_refused t st e;
+  own_fits = λ t r pos. (spelling_of wholes w t).own_fits t r pos;
+  own_refused = λ t r pos e. (spelling_of wholes w t).own_refused t r pos e;
+  suits = λ fit keys t. (spelling_of wholes w t).suits fit keys t;
 }
 
 -- the spelling of a document has as many levels as the document is deep
-abbrev pub node_spelling : Spelling Tree NodeResolver
-node_spelling = self_spelling node_level refused depth
+abbrev pub node_spelling : List Tree → Spelling Tree NodeResolver
+node_spelling wholes = self_spelling (node_level wholes) refused depth
 
--- the value that the layout has for a document, except for the positions of shared texts
+-- the value that the layout has for a document, except for the positions of shared texts and of wholes
 abbrev pub node_value : Tree → Value
-node_value = node_spelling.plain
+node_value t = (node_spelling (wholes_of t)).plain t

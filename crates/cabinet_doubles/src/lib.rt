@@ -1,14 +1,16 @@
-//! What tests of documents share: a source and a writer that fail, and archives byte by byte.
+//! What tests of documents share: a source and a writer that fail, archives byte by byte, and texts of wholes.
 #![tactic(auto)]
 
 ghost use Rattle.std.specs.Prelude.{◌≡◌, true};
 
 pub mod archives;
 mod row;
+mod texts;
 
 pub use archive_doubles::FailingWriter;
 use cabinet::{Source, SourceFailed};
 pub use row::{Edit, ROWS, Row, count_lines, line_at};
+pub use texts::text_of_wholes;
 
 /// A source that gives at most `most` bytes at a time, and fails after `reads_left` reads.
 #[derive(Drop)]

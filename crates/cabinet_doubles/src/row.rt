@@ -1,6 +1,8 @@
 //! A document, its archive, and lines about it.
 
-use crate::archives::{COFFEE_AND_TEA, TWO_SHARED, VAT_IN_EU, Z_AND_A};
+use crate::archives::{
+    COFFEE_AND_TEA, TWO_SHARED, TWO_WHOLES, VAT_IN_EU, WHOLE_IN_MAPS, WHOLE_IN_WHOLE, Z_AND_A,
+};
 
 /// An edit: how many lines precede it, the bytes that it writes, and the position in the archive where it writes them.
 #[derive(Clone, Copy)]
@@ -20,8 +22,8 @@ pub struct Row<'t, 'b> {
     pub edit: Option<Edit>,
 }
 
-/// Documents of maps, lists and shared texts.
-pub const ROWS: [Row<'static, 'static>; 4] = [
+/// Documents of maps, lists, shared texts and wholes.
+pub const ROWS: [Row<'static, 'static>; 7] = [
     Row {
         text: b"ordered 2\n'coffee\nint 300\n'tea\nint 250\n",
         archive: COFFEE_AND_TEA,
@@ -60,6 +62,31 @@ pub const ROWS: [Row<'static, 'static>; 4] = [
             line: 4,
             position: 96,
             bytes: b"\x03",
+        }),
+    },
+    Row {
+        text: b"wholes 1\nint 5\nlist 2\nwhole 0\nwhole 0\n",
+        archive: TWO_WHOLES,
+        lines: b"get #0\nget #1 ?\nset int 6 #0 ?\nset int 6 #0\nget #0 'a\n",
+        answers: b"whole\nint 5\nrefused\nrefused\nmissing\n",
+        edit: None,
+    },
+    Row {
+        text: b"wholes 2\nint 1\nlist 2\nwhole 0\nwhole 0\nlist 3\nwhole 1\nwhole 0\nwhole 1\n",
+        archive: WHOLE_IN_WHOLE,
+        lines: b"get #0 ?\nget #2 ? #1 ?\nget #1 ?\nset int 2 #2 ? #0 ?\nkeys #1\n",
+        answers: b"list 2\nint 1\nint 1\nrefused\nwrong\n",
+        edit: None,
+    },
+    Row {
+        text: b"wholes 1\nint 5\nlist 3\nordered 2\n'a\nwhole 0\n'b\nint 6\nhashed 2\n'a\nwhole 0\n'b\nint 7\nkept 2\n'b\nint 8\n'a\nwhole 0\n",
+        archive: WHOLE_IN_MAPS,
+        lines: b"get #0 'a ?\nset int 9 #1 'b\nget #1 'b\nset int 6 #1 'a ?\nget #2 'a ?\nkeys #2\n",
+        answers: b"int 5\nok\nint 9\nrefused\nint 5\nkeys 2 'b 'a\n",
+        edit: Some(Edit {
+            line: 1,
+            position: 248,
+            bytes: b"\x09",
         }),
     },
 ];

@@ -5,8 +5,8 @@ use Rattle.cabinet_documents.proofs.ShapeCanonical.Evaluate.{run_canonical, arch
 use Rattle.cabinet_documents.specs.ShapeCanonical.Hash.{hash_word, words_from, words_of, text_hash}
 use Rattle.cabinet_examples.specs.Node.{node_shape, node_names}
 use Rattle.cabinet_examples.specs.Pieces.{item_of, region}
-use Rattle.cabinet_examples.specs.Documents.{number_value, truth_value, text_value, shared_value, no_value, some_value, list_value, ordered_value, hashed_value, kept_value, number_bytes, truth_bytes, nothing_bytes, some_number_bytes, empty_list_bytes, long_text_bytes, shared_text_bytes, empty_shared_text_bytes, two_ordered_bytes, six_ordered_bytes, one_hashed_bytes, nested_bytes, two_kept_bytes, empty_kept_bytes}
-use Rattle.cabinet_examples.specs.Canonical.{text_visit, short_text_bytes, five_ordered_bytes, five_ordered_value, six_ordered_value, empty_ordered_bytes, two_hashed_bytes, HashOfA, HashOfNothing, CanonicalNumber, CanonicalTruth, CanonicalNothing, CanonicalSomeNumber, CanonicalEmptyList, CanonicalLongText, CanonicalShortText, CanonicalSharedText, CanonicalEmptySharedText, CanonicalOrderedMap, CanonicalLeafOfFive, CanonicalTreeOfSix, CanonicalEmptyOrderedMap, CanonicalHashedMap, CanonicalTakenPlace, CanonicalNestedMaps, CanonicalKeptMap, CanonicalEmptyKeptMap}
+use Rattle.cabinet_examples.specs.Documents.{number_value, truth_value, text_value, shared_value, no_value, some_value, list_value, ordered_value, hashed_value, kept_value, whole_value, number_bytes, truth_bytes, nothing_bytes, some_number_bytes, empty_list_bytes, long_text_bytes, shared_text_bytes, empty_shared_text_bytes, whole_bytes, two_ordered_bytes, six_ordered_bytes, one_hashed_bytes, nested_bytes, two_kept_bytes, empty_kept_bytes}
+use Rattle.cabinet_examples.specs.Canonical.{text_visit, node_visit, short_text_bytes, five_ordered_bytes, five_ordered_value, six_ordered_value, empty_ordered_bytes, two_hashed_bytes, HashOfA, HashOfNothing, CanonicalNumber, CanonicalTruth, CanonicalNothing, CanonicalSomeNumber, CanonicalEmptyList, CanonicalLongText, CanonicalShortText, CanonicalSharedText, CanonicalEmptySharedText, CanonicalWhole, CanonicalOrderedMap, CanonicalLeafOfFive, CanonicalTreeOfSix, CanonicalEmptyOrderedMap, CanonicalHashedMap, CanonicalTakenPlace, CanonicalNestedMaps, CanonicalKeptMap, CanonicalEmptyKeptMap}
 
 pub hash_of_a : HashOfA
 unfolding hash_word words_from words_of text_hash
@@ -77,6 +77,13 @@ unfolding run_canonical hash_word words_from words_of text_hash
 canonical_empty_shared_text =
     archive_found (first_fit text_hash) node_names empty_shared_text_bytes 90 0 56 node_shape
     (list_value (shared_value 0 "" ∷ shared_value 0 "" ∷ [])) (region 0 0 1 2 ∷ region 8 48 8 1 ∷ region 56 24 8 0 ∷ []) (text_visit 0 0 "" ∷ [])
+    refl
+
+pub canonical_whole : CanonicalWhole
+unfolding run_canonical hash_word words_from words_of text_hash
+canonical_whole =
+    archive_found (first_fit text_hash) node_names whole_bytes 90 0 72 node_shape
+    (list_value (whole_value 0 (number_value 5) ∷ whole_value 0 (number_value 5) ∷ [])) (region 0 24 8 2 ∷ region 24 48 8 1 ∷ region 72 24 8 0 ∷ []) (node_visit 0 (number_value 5) ∷ [])
     refl
 
 pub canonical_ordered_map : CanonicalOrderedMap

@@ -1,12 +1,12 @@
 -- The documents hold what is stated: by computation.
 use Rattle.std.proofs.Common.{[], ◌∷◌, refl, codes}
-use Rattle.cabinet_documents.specs.ShapeLayout.Shape.Pointee.{str}
+use Rattle.cabinet_documents.specs.ShapeLayout.Shape.Pointee.{sized, str}
 use Rattle.cabinet_documents.specs.ShapeLayout.Value.Value.{string}
 use Rattle.cabinet_documents.proofs.ShapeLayout.Evaluate.{run}
 use Rattle.cabinet_documents.proofs.ShapeLayout.Evaluated.{root_found}
 use Rattle.cabinet_examples.specs.Sizes.{NodeSizes}
 use Rattle.cabinet_examples.specs.Node.{node_names, node_shape}
-use Rattle.cabinet_examples.specs.Documents.{NumberAtTheRoot, TruthAtTheRoot, LongTextAtTheRoot, NothingAtTheRoot, SomeNumber, SixtyFourOptions, EmptyList, SharedTextTwice, EmptySharedTextTwice, OrderedMapOfTwo, OrderedMapOfSix, OrderedMapWithAnEmptyLeaf, HashedMapOfOne, ListInAMapInAMap, KeptMapOfTwo, EmptyKeptMap, options, options_value, options_regions}
+use Rattle.cabinet_examples.specs.Documents.{NumberAtTheRoot, TruthAtTheRoot, LongTextAtTheRoot, NothingAtTheRoot, SomeNumber, SixtyFourOptions, EmptyList, SharedTextTwice, EmptySharedTextTwice, WholeTwice, OrderedMapOfTwo, OrderedMapOfSix, OrderedMapWithAnEmptyLeaf, HashedMapOfOne, ListInAMapInAMap, KeptMapOfTwo, EmptyKeptMap, options, options_value, options_regions, number_value}
 
 pub node_sizes : NodeSizes
 unfolding run
@@ -47,6 +47,10 @@ shared_text_twice = record { has_size = refl; has_position = refl; visits = reco
 pub empty_shared_text_twice : EmptySharedTextTwice
 unfolding run
 empty_shared_text_twice = record { has_size = refl; has_position = refl; visits = record { pos = 0; pointee = str; len = 0; value = string (codes "") } ∷ []; has_root = root_found _ _ 90 _ _ _ _ _ refl }
+
+pub whole_twice : WholeTwice
+unfolding run
+whole_twice = record { has_size = refl; has_position = refl; visits = record { pos = 0; pointee = sized node_shape; len = 1; value = number_value 5 } ∷ []; has_root = root_found _ _ 90 _ _ _ _ _ refl }
 
 pub ordered_map_of_two : OrderedMapOfTwo
 unfolding run

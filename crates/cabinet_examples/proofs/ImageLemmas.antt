@@ -4,10 +4,11 @@ use Rattle.std.proofs.lemmas.Int.{ints}
 use Rattle.cabinet_documents.specs.ShapeLayout.Bytes.{align_up}
 use Rattle.cabinet_documents.specs.ShapeLayout.Content.{shape_content, choose, number_value}
 use Rattle.cabinet_documents.specs.ArchiveShape.Offsets.{FitsOffset}
+use Rattle.cabinet_documents.specs.TextGrammar.Tree.{leaf, number}
 use Rattle.cabinet_documents.proofs.FormsLaws.Gaps.{bytes_none, bytes_more, bytes_number}
 use Rattle.cabinet_documents.proofs.TextGrammar.Utf8.{IsUtf8-word}
 use Rattle.cabinet_documents.proofs.Imaged.{written_is_image_law}
-use Rattle.cabinet_examples.specs.Images.{FiveImage, TrueImage, WorldImage, LongTextImage, NothingImage, SomeFiveImage, SevenAndNineteenImage, EmptyListImage, ListOfAnEmptyListImage, SharedTextImage, EmptySharedTextImage, shared_twice, seven_and_nineteen, seven_and_nineteen_bytes}
+use Rattle.cabinet_examples.specs.Images.{FiveImage, TrueImage, WorldImage, LongTextImage, NothingImage, SomeFiveImage, SevenAndNineteenImage, EmptyListImage, ListOfAnEmptyListImage, SharedTextImage, EmptySharedTextImage, WholeImage, shared_twice, whole_twice, seven_and_nineteen, seven_and_nineteen_bytes}
 
 small : (n : ℕ) → n < 2 ^ 63 → FitsSigned w64 (pos n)
 small n h = record { sfits = h }
@@ -131,6 +132,27 @@ empty_shared_text_image =
           ((tt, (utf8, lit< tt), refl), (tt, tt)),
           lit< tt,
           (((first, lit< tt), lit< tt), (((second, lit< tt), lit< tt), tt)),
+        ),
+        tt,
+      ),
+      lit< tt,
+      (((back, lit< tt), lit< tt), tt),
+    )
+    refl
+
+pub whole_image : WholeImage
+unfolding align_up shape_content number_value
+whole_image =
+    let first : FitsOffset 28 0 = record { sfits = omega (arith, ints) } in
+    let second : FitsOffset 52 0 = record { sfits = omega (arith, ints) } in
+    let back : FitsOffset 76 24 = record { sfits = omega (arith, ints) } in
+    written_is_image_law (whole_twice (leaf (number (pos 5)))) _
+    (((small 5 (lit< tt), (small 5 (lit< tt), tt)), lit< tt), lit≤ tt, lit< tt) (
+      (
+        (
+          ((tt, ((tt, tt), lit< tt, (((λ names start. refl, refl, bytes_number w64 5), lit< tt), tt)), refl), (tt, tt)),
+          lit< tt,
+          ((first, lit< tt), ((second, lit< tt), tt)),
         ),
         tt,
       ),

@@ -1,7 +1,7 @@
 -- Worked documents whose bytes are the one archive of their value, and the hashes that place their keys.
 use Rattle.std.specs.Prelude.{◌≡◌, ℕ, List, [], ◌∷◌, ◌++◌, codes}
 use Prim.Native.String.{String}
-use Rattle.cabinet_documents.specs.ShapeLayout.Shape.Pointee.{str}
+use Rattle.cabinet_documents.specs.ShapeLayout.Shape.Pointee.{sized, str}
 use Rattle.cabinet_documents.specs.ShapeLayout.Value.{Value}
 use Rattle.cabinet_documents.specs.ShapeLayout.Value.Value.{string}
 use Rattle.cabinet_documents.specs.ShapeLayout.Holds.{Region, Visit}
@@ -10,7 +10,7 @@ use Rattle.cabinet_documents.specs.ShapeCanonical.Canonical.{CanonicalArchive}
 use Rattle.cabinet_documents.specs.ShapeCanonical.Hash.{text_hash}
 use Rattle.cabinet_examples.specs.Node.{node_shape, node_names}
 use Rattle.cabinet_examples.specs.Pieces.{zeros, filler, inline, number_node, item_of, region}
-use Rattle.cabinet_examples.specs.Documents.{number_value, truth_value, text_value, shared_value, no_value, some_value, list_value, ordered_value, hashed_value, kept_value, number_bytes, truth_bytes, nothing_bytes, some_number_bytes, empty_list_bytes, long_text_bytes, shared_text_bytes, empty_shared_text_bytes, two_ordered_bytes, six_ordered_bytes, one_hashed_bytes, nested_bytes, two_kept_bytes, empty_kept_bytes}
+use Rattle.cabinet_examples.specs.Documents.{number_value, truth_value, text_value, shared_value, no_value, some_value, list_value, ordered_value, hashed_value, kept_value, whole_value, number_bytes, truth_bytes, nothing_bytes, some_number_bytes, empty_list_bytes, long_text_bytes, shared_text_bytes, empty_shared_text_bytes, whole_bytes, two_ordered_bytes, six_ordered_bytes, one_hashed_bytes, nested_bytes, two_kept_bytes, empty_kept_bytes}
 
 -- bytes are the one archive of the document node that they have at a position, with the regions that it claims and the
 -- shared values that it leads to
@@ -20,6 +20,10 @@ IsArchive bytes pos v regions visits = CanonicalArchive (first_fit text_hash) no
 -- a shared text at a position
 abbrev pub text_visit : ℕ → ℕ → String → Visit
 text_visit at len s = record { pos = at; pointee = str; len = len; value = string (codes s) }
+
+-- the node of a whole at a position
+abbrev pub node_visit : ℕ → Value → Visit
+node_visit at v = record { pos = at; pointee = sized node_shape; len = 1; value = v }
 
 -- ---- hashes
 
@@ -71,6 +75,15 @@ CanonicalEmptySharedText =
     (list_value (shared_value 0 "" ∷ shared_value 0 "" ∷ []))
     (region 0 0 1 2 ∷ region 8 48 8 1 ∷ region 56 24 8 0 ∷ [])
     (text_visit 0 0 "" ∷ [])
+
+-- ---- wholes
+
+abbrev pub CanonicalWhole : Type 0
+CanonicalWhole =
+    IsArchive whole_bytes 72
+    (list_value (whole_value 0 (number_value 5) ∷ whole_value 0 (number_value 5) ∷ []))
+    (region 0 24 8 2 ∷ region 24 48 8 1 ∷ region 72 24 8 0 ∷ [])
+    (node_visit 0 (number_value 5) ∷ [])
 
 -- ---- ordered maps
 

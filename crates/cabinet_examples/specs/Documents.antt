@@ -44,6 +44,9 @@ hashed_value items = chosen 7 (values (group_of items ∷ []))
 abbrev pub kept_value : List Value → Value
 kept_value items = chosen 8 (values (group_of items ∷ []))
 
+abbrev pub whole_value : ℕ → Value → Value
+whole_value at v = chosen 9 (values (counted at v ∷ []))
+
 -- ---- a number
 
 abbrev pub number_bytes : List ℕ
@@ -141,6 +144,21 @@ EmptySharedTextTwice =
     HoldsDocument empty_shared_text_bytes 80 56
     (list_value (shared_value 0 "" ∷ shared_value 0 "" ∷ []))
     (region 0 0 1 2 ∷ region 8 48 8 1 ∷ region 56 24 8 0 ∷ [])
+
+-- ---- a whole that a list holds twice is written once too, and is claimed at its first visit
+
+abbrev pub whole_bytes : List ℕ
+whole_bytes =
+    number_node 5
+    ++ 0x09 ∷ zeros 3 ++ 0xe4 ∷ 0xff ∷ 0xff ∷ 0xff ∷ zeros 16
+    ++ 0x09 ∷ zeros 3 ++ 0xcc ∷ 0xff ∷ 0xff ∷ 0xff ∷ zeros 16
+    ++ 0x05 ∷ zeros 3 ++ 0xcc ∷ 0xff ∷ 0xff ∷ 0xff ∷ 0x02 ∷ zeros 15
+
+abbrev pub WholeTwice : Type 0
+WholeTwice =
+    HoldsDocument whole_bytes 96 72
+    (list_value (whole_value 0 (number_value 5) ∷ whole_value 0 (number_value 5) ∷ []))
+    (region 0 24 8 2 ∷ region 24 48 8 1 ∷ region 72 24 8 0 ∷ [])
 
 -- ---- an ordered map of two numbers: a leaf, with keys at 4, values at 48 and its length at 168
 

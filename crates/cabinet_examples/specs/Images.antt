@@ -1,9 +1,9 @@
 -- Documents whose images are written out.
 use Rattle.std.specs.Prelude.{ℕ, List, [], ◌∷◌, ◌++◌, codes, pos, true}
-use Rattle.cabinet_documents.specs.TextGrammar.Tree.{Tree, leaf, shared, nothing, just, list, no_trees, more_trees, truth, number, text}
+use Rattle.cabinet_documents.specs.TextGrammar.Tree.{Tree, leaf, shared, nothing, just, list, whole, no_trees, more_trees, truth, number, text}
 use Rattle.cabinet_documents.specs.Image.{Image}
 use Rattle.cabinet_examples.specs.Pieces.{zeros, filler, number_node}
-use Rattle.cabinet_examples.specs.Documents.{number_bytes, truth_bytes, long_text_bytes, nothing_bytes, some_number_bytes, empty_list_bytes, shared_text_bytes, empty_shared_text_bytes}
+use Rattle.cabinet_examples.specs.Documents.{number_bytes, truth_bytes, long_text_bytes, nothing_bytes, some_number_bytes, empty_list_bytes, shared_text_bytes, empty_shared_text_bytes, whole_bytes}
 
 -- ---- leaves
 
@@ -63,3 +63,11 @@ SharedTextImage = Image (shared_twice (codes "hello world!")) shared_text_bytes
 -- an empty one is followed by a zero byte
 abbrev pub EmptySharedTextImage : Type 0
 EmptySharedTextImage = Image (shared_twice []) empty_shared_text_bytes
+
+-- ---- a list of one whole twice: its node is written once, before the elements, and both lead to it
+
+abbrev pub whole_twice : Tree → Tree
+whole_twice t = list (more_trees (whole t) (more_trees (whole t) no_trees))
+
+abbrev pub WholeImage : Type 0
+WholeImage = Image (whole_twice (leaf (number (pos 5)))) whole_bytes

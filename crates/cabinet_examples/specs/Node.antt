@@ -1,4 +1,4 @@
--- The layout of a document's node with all nine kinds, shared texts and maps included: 24 bytes, aligned to 8; a tag
+-- The layout of a document's node with all ten kinds, shared texts, maps and wholes included: 24 bytes, aligned to 8; a tag
 -- byte, then the payload of the tag at its alignment.
 use Rattle.std.specs.Prelude.{true, false, [], ◌∷◌}
 use Rattle.std.specs.Int.{w64}
@@ -18,7 +18,7 @@ abbrev pub pair : Shape
 pair = tuple (more_shapes text (more_shapes node_shape no_shapes))
 
 -- in the order of the tags, from 0: a truth value, a number, a text, a shared text, an option, a list, an ordered map
--- with five entries in each of its nodes, a hashed map, and a map that keeps its order
+-- with five entries in each of its nodes, a hashed map, a map that keeps its order, and a whole
 abbrev pub payloads : Shapes
 payloads =
     more_shapes truth
@@ -29,7 +29,8 @@ payloads =
     (more_shapes (vector node_shape)
     (more_shapes (tree 5 text node_shape)
     (more_shapes (table pair)
-    (more_shapes (index_map text node_shape) no_shapes))))))))
+    (more_shapes (index_map text node_shape)
+    (more_shapes (shared false (sized node_shape)) no_shapes)))))))))
 
 abbrev pub node_names : Names
 node_names = (0, choice payloads) ∷ []

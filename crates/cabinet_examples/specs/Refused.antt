@@ -28,7 +28,7 @@ BoxThatIsNotAligned = NoDocument unaligned_bytes 56 32
 -- ---- tags, truth values and chars
 
 abbrev pub UnknownTag : Type 0
-UnknownTag = NoDocument (0x09 ∷ zeros 23) 24 0
+UnknownTag = NoDocument (0x0a ∷ zeros 23) 24 0
 
 abbrev pub UnknownTagOfAnOption : Type 0
 UnknownTagOfAnOption = NoDocument (number_node 5 ++ 0x04 ∷ zeros 3 ++ 0x02 ∷ zeros 3 ++ 0xe0 ∷ 0xff ∷ 0xff ∷ 0xff ∷ zeros 12) 48 24

@@ -12,7 +12,7 @@ pub use canonical_archives::{
     list_in_a_map_in_a_map_is_canonical, long_text_is_canonical, nothing_is_canonical,
     number_is_canonical, ordered_map_of_five_is_canonical, ordered_map_of_six_is_canonical,
     ordered_map_of_two_is_canonical, shared_text_twice_is_canonical, short_text_is_canonical,
-    some_number_is_canonical, truth_is_canonical,
+    some_number_is_canonical, truth_is_canonical, whole_twice_is_canonical,
 };
 pub use spoilt_archives::{
     byte_behind_the_root, capacity_greater_than_needed, capacity_without_entries,

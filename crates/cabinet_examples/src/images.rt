@@ -1,6 +1,6 @@
 //! Worked documents with their images written out, one in the contract of each function.
 
-ghost use Rattle.cabinet_examples.specs.Images.{FiveImage, TrueImage, WorldImage, LongTextImage, NothingImage, SomeFiveImage, SevenAndNineteenImage, EmptyListImage, ListOfAnEmptyListImage, SharedTextImage, EmptySharedTextImage};
+ghost use Rattle.cabinet_examples.specs.Images.{FiveImage, TrueImage, WorldImage, LongTextImage, NothingImage, SomeFiveImage, SevenAndNineteenImage, EmptyListImage, ListOfAnEmptyListImage, SharedTextImage, EmptySharedTextImage, WholeImage};
 
 /// The image of the number 5.
 pub fn five_image()
@@ -55,4 +55,9 @@ pub fn shared_text_image()
 /// The image of a list of one empty shared text twice, with a zero byte at the position of the text.
 pub fn empty_shared_text_image()
     ensures { EmptySharedTextImage }
+{}
+
+/// The image of a list of the whole `5` twice: the whole's node is written once, and both elements point to it.
+pub fn whole_image()
+    ensures { WholeImage }
 {}

@@ -9,7 +9,7 @@ mod canonical;
 mod images;
 
 ghost use Rattle.cabinet_examples.specs.Sizes.{NodeSizes};
-ghost use Rattle.cabinet_examples.specs.Documents.{NumberAtTheRoot, TruthAtTheRoot, LongTextAtTheRoot, NothingAtTheRoot, SomeNumber, SixtyFourOptions, EmptyList, SharedTextTwice, EmptySharedTextTwice, OrderedMapOfTwo, OrderedMapOfSix, OrderedMapWithAnEmptyLeaf, HashedMapOfOne, ListInAMapInAMap, KeptMapOfTwo, EmptyKeptMap};
+ghost use Rattle.cabinet_examples.specs.Documents.{NumberAtTheRoot, TruthAtTheRoot, LongTextAtTheRoot, NothingAtTheRoot, SomeNumber, SixtyFourOptions, EmptyList, SharedTextTwice, EmptySharedTextTwice, WholeTwice, OrderedMapOfTwo, OrderedMapOfSix, OrderedMapWithAnEmptyLeaf, HashedMapOfOne, ListInAMapInAMap, KeptMapOfTwo, EmptyKeptMap};
 ghost use Rattle.cabinet_examples.specs.Doubtful.{OrderedMapWithARepeatedKey, HashedMapWithARepeatedKey, HashedMapWithAnotherTag, OrderedMapWithPadding, EmptyBuffer};
 ghost use Rattle.cabinet_examples.specs.Boxes.{BoxedBytesInAnOption, BoxesThatLeadBeforeTheBuffer, BoxesThatOverlap, BoxesInACircle, OnePositionWithTwoLengths, MapOfANonzeroNumber, LeafShorterThanItsMap, MapWithAKeyOfZero};
 ghost use Rattle.cabinet_examples.specs.Refused.{BoxThatIsNotAligned, UnknownTag, UnknownTagOfAnOption, TruthValueOfTwo, SurrogateChar, BrokenInlineText, BrokenLongText, LongTextOfEight, TableWithoutRoom, ControlThatDoesNotRepeat, EmptyControlThatDoesNotRepeat, TagBeyondTwiceTheCapacity, MoreTagsThanItems, PlaceOutsideTheMap, LeafOfSix, UnknownKindOfNode, ThirtyTwoLevels, ThirtyThreeLevels, OnePositionWithTwoShapes, LoopOfAFlavorWithCycles, LoopOfAFlavorWithoutCycles};
@@ -28,12 +28,12 @@ pub use canonical::{
     shared_text_that_stands_twice, shared_text_twice_is_canonical, short_text_is_canonical,
     some_number_is_canonical, table_that_is_not_by_first_fit, tag_of_another_key,
     tree_higher_than_its_entries_need, tree_that_is_not_filled_from_the_left, truth_is_canonical,
-    unused_slot_that_is_not_zero,
+    unused_slot_that_is_not_zero, whole_twice_is_canonical,
 };
 pub use images::{
     empty_list_image, empty_shared_text_image, five_image, list_of_an_empty_list_image,
     long_text_image, nothing_image, seven_and_nineteen_image, shared_text_image, some_five_image,
-    true_image, world_image,
+    true_image, whole_image, world_image,
 };
 
 /// A document node takes 24 bytes, the item of a map 32, a leaf of an ordered map 176 and an inner node 192.
@@ -84,6 +84,11 @@ pub fn shared_text_twice()
 /// The same with an empty shared text, which has its own position.
 pub fn empty_shared_text_twice()
     ensures { EmptySharedTextTwice }
+{}
+
+/// A list with one whole twice: the whole's node is written once, is claimed once, and both elements have its position.
+pub fn whole_twice()
+    ensures { WholeTwice }
 {}
 
 /// An ordered map of two numbers is one leaf.

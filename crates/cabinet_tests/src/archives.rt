@@ -35,6 +35,14 @@ pub const SHARED: &[u8; 40] =
 pub const SHARED_APART: &[u8; 104] =
     b"hello world!....hello world!....\x03\0\0\0\xdc\xff\xff\xff\x0c\0\0\0\0\0\0\0\0\0\0\0\0\0\0\0\x03\0\0\0\xd4\xff\xff\xff\x0c\0\0\0\0\0\0\0\0\0\0\0\0\0\0\0\x05\0\0\0\xcc\xff\xff\xff\x02\0\0\0\0\0\0\0\0\0\0\0\0\0\0\0";
 
+/// A list of two wholes `5`, which lie at two positions: the nodes, and the elements from 48 on.
+pub const WHOLES_APART: &[u8; 120] =
+    b"\x01\0\0\0\0\0\0\0\x05\0\0\0\0\0\0\0\0\0\0\0\0\0\0\0\x01\0\0\0\0\0\0\0\x05\0\0\0\0\0\0\0\0\0\0\0\0\0\0\0\x09\0\0\0\xcc\xff\xff\xff\0\0\0\0\0\0\0\0\0\0\0\0\0\0\0\0\x09\0\0\0\xcc\xff\xff\xff\0\0\0\0\0\0\0\0\0\0\0\0\0\0\0\0\x05\0\0\0\xcc\xff\xff\xff\x02\0\0\0\0\0\0\0\0\0\0\0\0\0\0\0";
+
+/// A whole that leads to the node in which it lies, and the root, a whole of this node.
+pub const CYCLE: &[u8; 48] =
+    b"\x09\0\0\0\xfc\xff\xff\xff\0\0\0\0\0\0\0\0\0\0\0\0\0\0\0\0\x09\0\0\0\xe4\xff\xff\xff\0\0\0\0\0\0\0\0\0\0\0\0\0\0\0\0";
+
 /// A hashed map without pairs.
 pub const EMPTY_HASHED: &[u8; 24] = b"\x07\0\0\0\x01\0\0\0\0\0\0\0\0\0\0\0\0\0\0\0\0\0\0\0";
 
@@ -104,5 +112,65 @@ pub fn tall(alloc: Global, levels: u8) -> Result<Vec<u8>, AllocError> {
     let mut root = *b"\x06\0\0\0\x3c\xff\xff\xff\0\0\0\0\0\0\0\0\0\0\0\0\0\0\0\0";
     root[8] = levels.saturating_mul(5);
     bytes.extend_from_slice(&root)?;
+    Ok(bytes)
+}
+
+/// The hashed map from a to the whole `1` and from b to the whole `2`, by whose places b comes first: the nodes of `2` and of
+/// `1`, the table from 48 on, and the root from 176 on.
+pub const WHOLES_BY_PLACE: &[u8; 200] =
+    b"\x01\0\0\0\0\0\0\0\x02\0\0\0\0\0\0\0\0\0\0\0\0\0\0\0\x01\0\0\0\0\0\0\0\x01\0\0\0\0\0\0\0\0\0\0\0\0\0\0\0a\xff\xff\xff\xff\xff\xff\xff\x09\0\0\0\xdc\xff\xff\xff\0\0\0\0\0\0\0\0\0\0\0\0\0\0\0\0b\xff\xff\xff\xff\xff\xff\xff\x09\0\0\0\xa4\xff\xff\xff\0\0\0\0\0\0\0\0\0\0\0\0\0\0\0\0\0\0\0\0\0\0\0\0\0\0\0\0\0\0\0\0\0\0\0\0\0\0\0\0\0\0\0\0\0\0\0\0\xffSU\xffSU\xff\xff\xff\xff\xff\xff\xff\xff\xff\xff\xff\xff\xff\xff\xff\xff\xff\xff\xff\xff\xff\xff\xff\xff\xff\0\x07\0\0\0\xdc\xff\xff\xff\x02\0\0\0\x03\0\0\0\0\0\0\0\0\0\0\0";
+
+/// The node of `int 1`.
+const ONE: &[u8; 24] = b"\x01\0\0\0\0\0\0\0\x01\0\0\0\0\0\0\0\0\0\0\0\0\0\0\0";
+
+/// An option of the node that ends where it begins, a whole of it, and the root that is a list of the two nodes before it.
+const OPTION_OF_IT: &[u8; 24] = b"\x04\0\0\0\x01\0\0\0\xe0\xff\xff\xff\0\0\0\0\0\0\0\0\0\0\0\0";
+
+const WHOLE_OF_IT: &[u8; 24] = b"\x09\0\0\0\xe4\xff\xff\xff\0\0\0\0\0\0\0\0\0\0\0\0\0\0\0\0";
+
+const LIST_OF_TWO: &[u8; 24] = b"\x05\0\0\0\xcc\xff\xff\xff\x02\0\0\0\0\0\0\0\0\0\0\0\0\0\0\0";
+
+/// A whole of the node that ends 24 bytes before it begins, and an option of it.
+const WHOLE_AGAIN: &[u8; 24] = b"\x09\0\0\0\xcc\xff\xff\xff\0\0\0\0\0\0\0\0\0\0\0\0\0\0\0\0";
+
+const OPTION_AGAIN: &[u8; 24] = b"\x04\0\0\0\x01\0\0\0\xc8\xff\xff\xff\0\0\0\0\0\0\0\0\0\0\0\0";
+
+/// Returns `count` wholes, each of which but the first has the one before it, and at the root the last one.
+pub fn chain(alloc: Global, count: usize) -> Result<Vec<u8>, AllocError> {
+    let mut bytes = Vec::from_slice(alloc, ONE)?;
+    for _ in 0..count {
+        bytes.extend_from_slice(WHOLE_OF_IT)?;
+    }
+    Ok(bytes)
+}
+
+/// Returns `count` wholes, each of which but the first is a list that has the one before it twice, and such a list of the last
+/// one at the root.
+pub fn doubled(alloc: Global, count: usize) -> Result<Vec<u8>, AllocError> {
+    let mut bytes = Vec::from_slice(alloc, ONE)?;
+    for _ in 0..count {
+        bytes.extend_from_slice(WHOLE_OF_IT)?;
+        bytes.extend_from_slice(WHOLE_AGAIN)?;
+        bytes.extend_from_slice(LIST_OF_TWO)?;
+    }
+    Ok(bytes)
+}
+
+/// Returns a list of a whole of 61 options, one in the other, and of `around` options, one in the other, that have it again.
+/// `offset` is the low byte of the first element's offset.
+pub fn behind(alloc: Global, around: usize, offset: u8) -> Result<Vec<u8>, AllocError> {
+    let mut bytes = Vec::from_slice(alloc, ONE)?;
+    for _ in 0..61 {
+        bytes.extend_from_slice(OPTION_OF_IT)?;
+    }
+    bytes.extend_from_slice(WHOLE_OF_IT)?;
+    for _ in 1..around {
+        bytes.extend_from_slice(OPTION_OF_IT)?;
+    }
+    let mut first = *WHOLE_OF_IT;
+    first[4] = offset;
+    bytes.extend_from_slice(&first)?;
+    bytes.extend_from_slice(OPTION_AGAIN)?;
+    bytes.extend_from_slice(LIST_OF_TWO)?;
     Ok(bytes)
 }

@@ -17,3 +17,5 @@ mod printing;
 mod saving;
 #[cfg(test)]
 mod spoilt;
+#[cfg(test)]
+mod wholes;

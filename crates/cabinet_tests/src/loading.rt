@@ -1,7 +1,7 @@
 //! Tests of documents that are loaded from archives.
-use crate::archives::SHARED_APART;
-use cabinet::{Document, Leaf, Node, SetAnswer, Step, open, write_text};
-use cabinet_doubles::archives::{A_TO_WORLD, TWO_SHARED};
+use crate::archives::{SHARED_APART, WHOLES_APART};
+use cabinet::{Document, Leaf, Node, SetAnswer, Step, open, to_bytes, write_text};
+use cabinet_doubles::archives::{A_TO_WORLD, TWO_SHARED, TWO_WHOLES};
 use std::rc::RcStr;
 use std::test::Fail;
 
@@ -23,6 +23,18 @@ fn equal_shared_texts_share_their_memory(rt: HostRuntime) -> Result<(), Fail> {
         let opened = open(rt.alloc(), bytes.as_mut_slice()).map_err(|_| "refused")?;
         assert!(rt; has_one_text(&opened.load(rt.alloc())?));
     }
+    Ok(())
+}
+
+#[test]
+fn equal_wholes_apart_are_loaded_as_one(rt: HostRuntime) -> Result<(), Fail> {
+    let mut bytes = *WHOLES_APART;
+    let opened = open(rt.alloc(), &mut bytes).map_err(|_| "refused")?;
+    let document = opened.load(rt.alloc())?;
+    let mut text = Vec::new(rt.alloc());
+    write_text(&document, &mut text)?;
+    assert!(rt; text.as_slice() == b"wholes 1\nint 5\nlist 2\nwhole 0\nwhole 0\n".as_slice());
+    assert!(rt; to_bytes(rt.alloc(), &document)?.as_slice() == TWO_WHOLES.as_slice());
     Ok(())
 }
 

@@ -5,7 +5,9 @@ use cabinet::{
     Document, Group1, Group8, Group16, Kind, Line, Node, OpenRefusal, Scan, Step, Steps, check,
     open, open_scanned, read_line, to_bytes,
 };
-use cabinet_doubles::archives::{A_TO_WORLD, COFFEE_AND_TEA, VAT_IN_EU, Z_AND_A};
+use cabinet_doubles::archives::{
+    A_TO_WORLD, COFFEE_AND_TEA, TWO_WHOLES, VAT_IN_EU, WHOLE_IN_MAPS, Z_AND_A,
+};
 use std::alloc::{AllocError, Global};
 use std::collections::BTreeMap;
 use std::test::Fail;
@@ -34,7 +36,7 @@ fn located_by_each(
 }
 
 /// Archives, questions, the kinds of what they ask for, and the comparisons and strides on the way.
-const ROWS: [(&[u8], &[u8], Option<Kind>, usize, usize); 20] = [
+const ROWS: [(&[u8], &[u8], Option<Kind>, usize, usize); 28] = [
     (COFFEE_AND_TEA, b"get", Some(Kind::Ordered), 0, 0),
     (COFFEE_AND_TEA, b"get 'tea", Some(Kind::Int), 2, 0),
     (COFFEE_AND_TEA, b"get 'x", None, 2, 0),
@@ -55,6 +57,15 @@ const ROWS: [(&[u8], &[u8], Option<Kind>, usize, usize); 20] = [
     // an inner node's five keys, and its child without entries
     (FIVE_ABOVE_NONE, b"get 'e", Some(Kind::Int), 5, 0),
     (FIVE_ABOVE_NONE, b"get 'f", None, 5, 0),
+    // into a whole, and past what lies in it
+    (TWO_WHOLES, b"get #1", Some(Kind::Whole), 0, 0),
+    (TWO_WHOLES, b"get #1 ?", Some(Kind::Int), 0, 0),
+    (TWO_WHOLES, b"get #1 ? ?", None, 0, 0),
+    (TWO_WHOLES, b"get #1 #0", None, 0, 0),
+    (WHOLE_IN_MAPS, b"get #0 'a", Some(Kind::Whole), 1, 0),
+    (WHOLE_IN_MAPS, b"get #0 'b", Some(Kind::Int), 2, 0),
+    (WHOLE_IN_MAPS, b"get #1 'a ?", Some(Kind::Int), 0, 1),
+    (WHOLE_IN_MAPS, b"get #2 'a ?", Some(Kind::Int), 0, 1),
     // maps without pairs
     (EMPTY_ORDERED, b"get 'a", None, 0, 0),
     (EMPTY_HASHED, b"get 'a", None, 0, 0),

@@ -1,18 +1,20 @@
 //! Tests of bytes that are opened, or refused by their first fault, by each scan.
 use crate::archives::{
-    A_APART, A_TO_ONE, A_TWICE, A_TWICE_KEPT, EMPTY_ORDERED, FIVE, SHARED, SHORT, TWO, TWO_LEAVES,
-    TWO_OPTIONS,
+    A_APART, A_TO_ONE, A_TWICE, A_TWICE_KEPT, CYCLE, EMPTY_ORDERED, FIVE, SHARED, SHORT, TWO,
+    TWO_LEAVES, TWO_OPTIONS, WHOLES_APART,
 };
 use archive_shape_writing::Error;
 use cabinet::{Group1, Group8, Group16, OpenRefusal, check_scanned};
-use cabinet_doubles::archives::{COFFEE_AND_TEA, TWO_SHARED, Z_AND_A};
+use cabinet_doubles::archives::{
+    COFFEE_AND_TEA, TWO_SHARED, TWO_WHOLES, WHOLE_IN_MAPS, WHOLE_IN_WHOLE, Z_AND_A,
+};
 use std::alloc::Global;
 
 /// Bytes with other values at some positions.
 type Changed = (&'static [u8], &'static [(usize, u8)]);
 
 /// Bytes that are opened.
-const OPENED: [Changed; 12] = [
+const OPENED: [Changed; 16] = [
     (FIVE, &[]),
     (TWO, &[]),
     (TWO_OPTIONS, &[]),
@@ -28,13 +30,17 @@ const OPENED: [Changed; 12] = [
     // a key in a place that its search shows
     (A_APART, &[]),
     (Z_AND_A, &[]),
+    (TWO_WHOLES, &[]),
+    (WHOLE_IN_WHOLE, &[]),
+    (WHOLE_IN_MAPS, &[]),
+    // equal wholes that lie at two positions
+    (WHOLES_APART, &[]),
 ];
 
 /// Numbers, lists and options that are no archive.
-const PLAIN: [(Changed, Error); 15] = [
+const PLAIN: [(Changed, Error); 14] = [
     ((&[], &[]), Error::InvalidSubtreePointer { size: 24 }),
     ((SHORT, &[]), Error::InvalidSubtreePointer { size: 24 }),
-    ((FIVE, &[(0, 9)]), Error::InvalidTag),
     ((FIVE, &[(0, 10)]), Error::InvalidTag),
     ((FIVE, &[(0, 255)]), Error::InvalidTag),
     ((FIVE, &[(0, 0), (1, 2)]), Error::InvalidTag),
@@ -60,8 +66,8 @@ const PLAIN: [(Changed, Error); 15] = [
         Error::InvalidSubtreePointer { size: 48 },
     ),
     ((TWO, &[(52, 0xce), (56, 1)]), Error::Unaligned { align: 8 }),
-    ((TWO, &[(0, 9)]), Error::InvalidTag),
-    ((TWO, &[(24, 9)]), Error::InvalidTag),
+    ((TWO, &[(0, 10)]), Error::InvalidTag),
+    ((TWO, &[(24, 10)]), Error::InvalidTag),
     // both options lead to one node
     (
         (TWO_OPTIONS, &[(80, 0xb0)]),
@@ -119,6 +125,30 @@ const TEXTS: [(Changed, Error); 13] = [
     ),
 ];
 
+/// Wholes that are no archive.
+const WHOLES: [(Changed, Error); 7] = [
+    // a whole that begins in its own node, and one that begins before the bytes
+    ((FIVE, &[(0, 9)]), Error::InvalidSubtreePointer { size: 24 }),
+    (
+        (TWO_WHOLES, &[(28, 0xe3)]),
+        Error::InvalidSubtreePointer { size: 24 },
+    ),
+    // a whole of the node in which it lies
+    ((CYCLE, &[]), Error::CyclicSharedPointer),
+    // the first element itself as the second one's node, and a node that begins in the one before
+    (
+        (TWO_WHOLES, &[(52, 0xe4)]),
+        Error::InvalidSubtreePointer { size: 24 },
+    ),
+    (
+        (TWO_WHOLES, &[(52, 0xd4)]),
+        Error::InvalidSubtreePointer { size: 24 },
+    ),
+    // a shared text where the node of a whole lies
+    ((TWO_WHOLES, &[(48, 3)]), Error::TypeMismatch),
+    ((TWO_WHOLES, &[(0, 10)]), Error::InvalidTag),
+];
+
 /// Ordered maps that are no archive.
 const TREES: [(Changed, Error); 16] = [
     (
@@ -132,7 +162,7 @@ const TREES: [(Changed, Error); 16] = [
         Error::InvalidSubtreePointer { size: 192 },
     ),
     ((COFFEE_AND_TEA, &[(4, 0xfe)]), Error::InvalidUtf8),
-    ((COFFEE_AND_TEA, &[(48, 9)]), Error::InvalidTag),
+    ((COFFEE_AND_TEA, &[(48, 10)]), Error::InvalidTag),
     // the number of entries in the leaf, and in the map
     (
         (COFFEE_AND_TEA, &[(168, 6)]),
@@ -276,7 +306,7 @@ fn archives_are_opened(rt: HostRuntime) {
 }
 
 #[test]
-fn numbers_lists_and_options_are_refused_by_their_first_fault(rt: HostRuntime) {
+fn plain_nodes_are_refused_by_their_first_fault(rt: HostRuntime) {
     for (changed, error) in PLAIN {
         let refusal = OpenRefusal::Access(error);
         assert!(rt; has_outcome_by_each(rt.alloc(), changed, Err(refusal)));
@@ -286,6 +316,14 @@ fn numbers_lists_and_options_are_refused_by_their_first_fault(rt: HostRuntime) {
 #[test]
 fn shared_texts_are_refused_by_their_first_fault(rt: HostRuntime) {
     for (changed, error) in TEXTS {
+        let refusal = OpenRefusal::Access(error);
+        assert!(rt; has_outcome_by_each(rt.alloc(), changed, Err(refusal)));
+    }
+}
+
+#[test]
+fn wholes_are_refused_by_their_first_fault(rt: HostRuntime) {
+    for (changed, error) in WHOLES {
         let refusal = OpenRefusal::Access(error);
         assert!(rt; has_outcome_by_each(rt.alloc(), changed, Err(refusal)));
     }

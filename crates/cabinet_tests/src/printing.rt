@@ -48,10 +48,6 @@ fn refusals_and_faults_of_runs_are_printed(rt: HostRuntime) {
             "the writer failed: the writer failed",
         ),
         (SaveRefusal::OutOfMemory, "out of memory"),
-        (
-            SaveRefusal::Kind,
-            "a kind of node has no layout in archives",
-        ),
     ];
     for (refusal, text) in refusals {
         is_printed_as(&rt, &refusal, text);

@@ -3,7 +3,7 @@ use archive_core_serializing::Buffer;
 use archive_shape_writing::{Error, Positional};
 use cabinet::{Document, Line, Node, SaveRefusal, open, read_text, save, to_bytes};
 use cabinet_doubles::FailingWriter;
-use cabinet_doubles::archives::COFFEE_AND_TEA;
+use cabinet_doubles::archives::{COFFEE_AND_TEA, TWO_WHOLES};
 use std::test::Fail;
 
 #[test]
@@ -18,14 +18,13 @@ fn a_document_is_saved_and_made_bytes_as_one_image(rt: HostRuntime) -> Result<()
 }
 
 #[test]
-fn a_document_with_wholes_is_not_saved(rt: HostRuntime) -> Result<(), Fail> {
+fn a_whole_with_two_places_is_saved_once(rt: HostRuntime) -> Result<(), Fail> {
     let text = b"wholes 1\nint 5\nlist 2\nwhole 0\nwhole 0\n";
     let document = read_text(rt.alloc(), text).map_err(|_| "no document")?;
     let mut archive = Vec::new(rt.alloc());
-    let refusal = save(rt.alloc(), &document, &mut archive);
-    assert!(rt; refusal == Err(SaveRefusal::Kind));
-    assert!(rt; archive.is_empty());
-    assert!(rt; to_bytes(rt.alloc(), &document).err() == Some(SaveRefusal::Kind));
+    save(rt.alloc(), &document, &mut archive)?;
+    assert!(rt; archive.as_slice() == TWO_WHOLES.as_slice());
+    assert!(rt; to_bytes(rt.alloc(), &document)?.as_slice() == TWO_WHOLES.as_slice());
     Ok(())
 }
 

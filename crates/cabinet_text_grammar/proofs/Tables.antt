@@ -240,6 +240,17 @@ pub listed_table : (table : List Tree) → IsTable table → IsListed table
 listed_table [] is = tt
 listed_table (t ∷ table) is = (is.1, listed_table table is.3)
 
+-- the wholes in a tree of a table are in the table
+pub listed_numbered : (table : List Tree) (t : Tree) → IsListed table → IsTrue (has table t) → IsNumbered table t
+listed_numbered [] t is h = absurd (false≢true h)
+listed_numbered (u ∷ table) t is h =
+    elim (same_tells u t) [
+      | inl here ↦ numbered_still table (u ∷ table) (has_more u table) t (subst (IsNumbered table) here.1 is.0)
+      | inr differs ↦
+          let later : IsTrue (has table t) = sym (ap (λ b. b || has table t) differs.0) ∙ h in
+          numbered_still table (u ∷ table) (has_more u table) t (listed_numbered table t is.1 later)
+    ]
+
 listed_with : (table : List Tree) (t : Tree) → IsListed table → IsNumbered table t → IsListed (with_tree table t)
 listed_with table t is known =
     elim (cases_Bool (has table t)) [

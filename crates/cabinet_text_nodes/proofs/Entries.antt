@@ -133,7 +133,7 @@ pub length_after : (table : List Tree) (ns : List Node) → length (table_after 
 length_after table [] = omega arith
 length_after table (x ∷ ns) = omega (arith, length_after (node_tree table x ∷ table) ns)
 
-first_numbered : (u : Tree) (table : List Tree) → numbered (u ∷ table) (length table) ≡ Some u
+pub first_numbered : (u : Tree) (table : List Tree) → numbered (u ∷ table) (length table) ≡ Some u
 first_numbered u table =
     elim (eqb_tells (length table) (length table)) [
       | inl is ↦ rw is.0 refl
@@ -167,7 +167,7 @@ within_table ns i legal =
     let found = legal_whole (numbered (table_of ns) i) legal in
     omega (arith, below_numbered (table_of ns) i found.0 found.1, length_after [] ns)
 
-some_at : (ns : List Node) (i : ℕ) → i < length ns → (n : Node) × (slice_get ns i ≡ Some n)
+pub some_at : (ns : List Node) (i : ℕ) → i < length ns → (n : Node) × (slice_get ns i ≡ Some n)
 some_at [] i within = absurd (omega (arith, within))
 some_at (n ∷ ns) zero within = (n, refl)
 some_at (n ∷ ns) (suc i) within = some_at ns i (omega (arith, within))

@@ -23,7 +23,7 @@ use Rattle.cabinet_text_nodes.proofs.Entries.{legal_whole, legal_known, length_a
 
 -- ---- the wholes of a legal node are in the table
 
-abbrev Numbers : Node → Type 0
+abbrev pub Numbers : Node → Type 0
 Numbers n = (table : List Tree) → IsLegal (node_tree table n) → IsNumbered table (node_tree table n)
 
 abbrev Numbered : Type 0
@@ -62,7 +62,7 @@ numbers_layer x y is table legal =
     subst (IsNumbered table) (sym seen)
     (subst (λ z. IsLegal (view_step table (map-Node Node Tree (node_tree table) z)) → IsNumbered table (view_step table (map-Node Node Tree (node_tree table) z))) is (layer_numbers table y) (subst IsLegal seen legal))
 
-numbers : (n : Node) → Numbers n
+pub numbers : (n : Node) → Numbers n
 numbers = ind-Node Numbers numbers_layer
 
 -- ---- larger tables

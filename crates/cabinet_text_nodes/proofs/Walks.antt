@@ -10,8 +10,8 @@ use Rattle.std.proofs.lemmas.Bool.Decides.{eqb_tells, Decides-eqb}
 use Rattle.cabinet_text_grammar.specs.Keys.{MapKind}
 use Rattle.cabinet_text_grammar.specs.Tree.{Tree, leaf, shared, nothing, just, list, map, whole, Trees, no_trees, more_trees, Pairs, no_pairs, more_pairs, depth, most_depth, IsLegal, AreLegal, ArePairs}
 use Rattle.cabinet_text_grammar.specs.Wholes.{same, has, numbered, with_tree, with_wholes, with_wholes_in, with_wholes_by, IsNumbered, AreNumbered, ArePairsNumbered, IsTable, wholes_of}
-use Rattle.cabinet_text_grammar.proofs.Equal.{itself, same_tells}
-use Rattle.cabinet_text_grammar.proofs.Tables.{IsListed, listed_table, numbered_still, has_more}
+use Rattle.cabinet_text_grammar.proofs.Equal.{itself}
+use Rattle.cabinet_text_grammar.proofs.Tables.{IsListed, listed_table, numbered_still, has_more, listed_numbered}
 use Rattle.cabinet_text_nodes.specs.Order.{IsEnd, IsWalk, WalksNode, WalksNodes}
 use Rattle.cabinet_text_nodes.specs.View.{node_tree, node_trees, node_pairs, whole_of, table_after, table_of}
 use Rattle.cabinet_text_nodes.proofs.Views.{node_tree-some, node_tree-whole}
@@ -100,20 +100,9 @@ mutual
   wholes_end_by table no_pairs = all_end table
   wholes_end_by table (more_pairs k t ps) = end_of_end (wholes_end table t) (wholes_end_by (with_wholes table t) ps)
 
--- the wholes in a tree of a table are in the table
-listed_numbered : (table : List Tree) (t : Tree) → IsListed table → IsTrue (has table t) → IsNumbered table t
-listed_numbered [] t is h = absurd (false≢true h)
-listed_numbered (u ∷ table) t is h =
-    elim (same_tells u t) [
-      | inl here ↦ numbered_still table (u ∷ table) (has_more u table) t (subst (IsNumbered table) here.1 is.0)
-      | inr differs ↦
-          let later : IsTrue (has table t) = sym (ap (λ b. b || has table t) differs.0) ∙ h in
-          numbered_still table (u ∷ table) (has_more u table) t (listed_numbered table t is.1 later)
-    ]
-
 -- to enter what is complete adds nothing
 mutual
-  complete_adds : (table : List Tree) → IsListed table → (t : Tree) → IsNumbered table t → with_wholes table t ≡ table
+  pub complete_adds : (table : List Tree) → IsListed table → (t : Tree) → IsNumbered table t → with_wholes table t ≡ table
   complete_adds table is (leaf l) there = refl
   complete_adds table is (shared t) there = refl
   complete_adds table is nothing there = refl

@@ -30,5 +30,5 @@ pub use refusal::DocumentRefusal;
 pub use shared_texts::SharedTexts;
 pub use writing::{
     answer_missing, answer_wrong, write_bad, write_head, write_key, write_key_line,
-    write_keys_head, write_missing, write_outcome, write_text, write_wrong,
+    write_keys_head, write_missing, write_node, write_outcome, write_text, write_wrong,
 };

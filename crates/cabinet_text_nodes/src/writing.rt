@@ -8,5 +8,4 @@ pub use answer::{
     write_outcome, write_wrong,
 };
 pub use head::{write_head, write_key_line};
-pub(crate) use text::write_node;
-pub use text::write_text;
+pub use text::{write_node, write_text};

@@ -1,25 +1,47 @@
-//! How a serializer writes each shared text once.
-ghost use Rattle.std.specs.Prelude.{◌-◌, ◌^◌, ◌<◌};
+//! How a serializer writes each shared text and each whole once.
+ghost use Rattle.std.specs.Prelude.{◌≡◌, ◌-◌, ◌^◌, ◌<◌, MatchResult};
+ghost use Rattle.archive_shape.specs.Sharing.{progress_of};
+ghost use Rattle.archive_shape_writing.specs.Progress.{IsSame, Starts, Finishes};
+ghost use Rattle.archive_shape_writing.specs.declared.error.Error.TheVariants.{OutOfMemory};
 ghost use Rattle.archive_shape_writing.specs.Writing.{Writes};
 ghost use Rattle.archive_forms_values.specs.FormsLaws.Shared.{shared_text_spelling};
 ghost use Rattle.archive_forms_values.specs.FormsLaws.Serializing.{HasState, Serializes};
-ghost use Rattle.cabinet_documents.specs.TextGrammar.TextKey.{text_key};
-ghost use Rattle.cabinet_archived.specs.Texts.{text_padding};
+ghost use Rattle.cabinet_documents.specs.SharedKeys.{key_of_text, key_of_number};
+ghost use Rattle.cabinet_archived.specs.Sharing.{text_padding};
 
-use crate::sharing::TextShare;
+use crate::sharing::NodeShare;
 use archive_core_serializing::Serializer;
 use archive_forms_writing::serialize_str;
-use archive_shape::{Allocator, Error, Positional, Writer};
+use archive_shape::{Allocator, Error, Positional, Sharing, SharingState, Writer};
 
-/// A writer that writes each shared text once. It is not used again after an error.
-pub trait TextSharing: Writer + Allocator {
+/// A writer that writes each shared text and each whole once. It is not used again after an error.
+pub trait NodeSharing: Writer + Allocator {
     /// Returns the position of a shared text. Writes its bytes if it was not seen before, and one zero byte after an
     /// empty text, so that no two texts have one position.
     fn serialize_text(&mut self, text: &str) -> Result<usize, Error>
         requires room { Self.failures self.old < 2 ^ 64 - 1 }
         requires state { HasState Self.pos Self.known self.old }
-        ensures { Serializes (shared_text_spelling text_key) Self.Writer text.now self.old
+        ensures { Serializes (shared_text_spelling key_of_text) Self.Writer text.now self.old
             self.new result };
+
+    /// Returns the progress of the whole with a number, and begins a whole that was not seen before. Writes nothing.
+    /// Returns `OutOfMemory` when an allocation fails.
+    fn start_whole(&mut self, number: u64) -> Result<SharingState, Error>
+        ensures contents { Self.contents self.new ≡ Self.contents self.old }
+        ensures pos { Self.pos self.new ≡ Self.pos self.old }
+        ensures failures { Self.failures self.new ≡ Self.failures self.old }
+        ensures starts { MatchResult result
+            (λ state. Starts (Self.known self.old) (Self.known self.new) (key_of_number number) (progress_of state))
+            (λ e. (e ≡ OutOfMemory) × IsSame (Self.known self.old) (Self.known self.new)) };
+
+    /// Finishes a whole that has begun, at the position `pos`. Writes and allocates nothing. Returns `NotStarted` for a
+    /// whole that has not begun, and `AlreadyFinished` for one that has finished.
+    fn finish_whole(&mut self, number: u64, pos: usize) -> Result<(), Error>
+        ensures contents { Self.contents self.new ≡ Self.contents self.old }
+        ensures pos { Self.pos self.new ≡ Self.pos self.old }
+        ensures failures { Self.failures self.new ≡ Self.failures self.old }
+        ensures finishes { Finishes (Self.known self.old) (Self.known self.new) (key_of_number number) pos result
+            (Self.known self.old (key_of_number number)) };
 }
 
 /// Writes a zero byte after an empty text.
@@ -34,14 +56,14 @@ fn pad_empty<W: Writer>(writer: &mut W, text: &str) -> Result<(), Error>
     }
 }
 
-impl<W: Writer, A: Allocator> TextSharing for Serializer<W, A, TextShare> {
+impl<W: Writer, A: Allocator> NodeSharing for Serializer<W, A, NodeShare> {
     fn serialize_text(&mut self, text: &str) -> Result<usize, Error> {
-        if let Some(pos) = self.sharing.position(text) {
+        if let Some(pos) = self.sharing.texts.position(text) {
             return Ok(pos);
         }
         let alloc = self.allocator.memory();
         let next = self.writer.pos();
-        match self.sharing.keep(alloc, text, next) {
+        match self.sharing.texts.keep(alloc, text, next) {
             Ok(()) => {}
             Err(e) => return Err(e),
         }
@@ -53,5 +75,13 @@ impl<W: Writer, A: Allocator> TextSharing for Serializer<W, A, TextShare> {
             Ok(()) => Ok(pos),
             Err(e) => Err(e),
         }
+    }
+
+    fn start_whole(&mut self, number: u64) -> Result<SharingState, Error> {
+        self.sharing.wholes.start_sharing(number as usize)
+    }
+
+    fn finish_whole(&mut self, number: u64, pos: usize) -> Result<(), Error> {
+        self.sharing.wholes.finish_sharing(number as usize, pos)
     }
 }

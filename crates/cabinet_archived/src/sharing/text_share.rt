@@ -6,7 +6,7 @@ ghost use Rattle.archive_shape_writing.specs.Progress.{IsSet};
 ghost use Rattle.archive_shape_writing.specs.Progress.Progress.{ended};
 ghost use Rattle.archive_shape_writing.specs.declared.error.Error.TheVariants.{OutOfMemory};
 ghost use Rattle.cabinet_documents.specs.TextGrammar.TextKey.{text_key, text_of_key};
-ghost use Rattle.cabinet_archived.specs.Texts.{progress_at};
+ghost use Rattle.cabinet_archived.specs.Sharing.{progress_at};
 
 use archive_shape::{Error, Registry};
 use std::alloc::Global;
@@ -15,7 +15,7 @@ use std::collections::BTreeMap;
 /// Keeps the position at which each text was written. A look-up takes time logarithmic in the number of texts, for any
 /// texts.
 #[derive(Drop)]
-pub struct TextShare {
+pub(crate) struct TextShare {
     ends: BTreeMap<String, usize>,
 }
 
@@ -25,7 +25,7 @@ impl Registry for TextShare {
 
 impl TextShare {
     /// Returns a registry without texts. Does not allocate.
-    pub fn new(alloc: Global) -> Self
+    pub(crate) fn new(alloc: Global) -> Self
         ensures { IsNoneMet (⟦<TextShare as Registry>⟧.known result) }
     {
         TextShare {

@@ -34,5 +34,6 @@ pub fn head<'a>(node: Ref<'a, ArchivedNode>) -> HeadRef<'a>
         ArchivedKind::Ordered(map) => HeadRef::Ordered(OrderedMap::len(map) as u64),
         ArchivedKind::Hashed(map) => HeadRef::Hashed(HashedMap::len(map) as u64),
         ArchivedKind::Kept(map) => HeadRef::Kept(KeptMap::len(map) as u64),
+        ArchivedKind::Whole(_) => HeadRef::Whole,
     }
 }

@@ -36,6 +36,7 @@ fn kind(node: Ref<'_, ArchivedNode>) -> Kind
         ArchivedKind::Ordered(_) => Kind::Ordered,
         ArchivedKind::Hashed(_) => Kind::Hashed,
         ArchivedKind::Kept(_) => Kind::Kept,
+        ArchivedKind::Whole(_) => Kind::Whole,
     }
 }
 
@@ -48,7 +49,7 @@ fn kind_at<G: Scan>(root: Ref<'_, ArchivedNode>, path: &[Step]) -> (Option<Kind>
 {
     let (found, steps) = find_counted::<G>(root, path);
     match found {
-        Some(node) => (Some(kind(node)), steps),
+        Some(found) => (Some(kind(found.node)), steps),
         None => (None, steps),
     }
 }

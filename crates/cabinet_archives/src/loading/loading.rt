@@ -5,20 +5,23 @@ ghost use Rattle.cabinet_archived.specs.Documents.Accepted.{Accepted};
 
 use crate::loading::nodes::load_node;
 use crate::loading::texts::LoadedTexts;
+use crate::loading::wholes::LoadedWholes;
 use archive_core_validation::root_position;
 use archive_shape::Ref;
 use cabinet_archived::ArchivedNode;
 use cabinet_text_nodes::Document;
 use std::alloc::{AllocError, Global};
 
-/// Returns the document that the bytes are the archive of. Equal shared texts of the document share their memory. The
-/// time and the memory are in proportion to the bytes, except for the comparisons of keys and of shared texts. An `Err`
+/// Returns the document that the bytes are the archive of. Equal shared texts of the document share their memory, and
+/// equal wholes are one. The time and the memory are in proportion to the bytes, except for the comparisons of keys, of
+/// shared texts and of wholes. An `Err`
 /// says that an allocation failed.
 pub fn load(alloc: Global, bytes: &[u8]) -> Result<Document, AllocError>
     requires { ∥ ((t : Tree) × Accepted bytes.now t) ∥₁ }
     ensures { IfOk result (λ document. (t : Tree) → Accepted bytes.now t → document ≡ t) }
 {
     let root = Ref::<ArchivedNode>::new(bytes, root_position::<ArchivedNode>(bytes.len()));
-    let root = load_node(alloc, root, 0, &mut LoadedTexts::new(alloc))?;
-    Ok(Document::of_parts(None, root))
+    let mut wholes = LoadedWholes::new(alloc);
+    let root = load_node(alloc, root, 0, &mut LoadedTexts::new(alloc), &mut wholes)?;
+    Ok(Document::of_parts(Some(wholes.into_nodes()), root))
 }

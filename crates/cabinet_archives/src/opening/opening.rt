@@ -19,6 +19,7 @@ use archive_shape::Ref;
 use archive_shape_writing::Error;
 use cabinet_archived::ArchivedNode;
 use std::alloc::Global;
+use std::collections::BTreeMap;
 
 /// The depth of subtrees at which a check ends: more than the regions that claim one another in an archive of 64 nested
 /// containers, of which a search tree has one on each of at most 32 levels.
@@ -38,14 +39,17 @@ fn access_root(alloc: Global, bytes: &[u8]) -> Result<Ref<'_, ArchivedNode>, Err
 }
 
 /// Checks that bytes are the archive of a document: their root is accessed, and then audited. The memory that it
-/// allocates grows with the depth that it reaches and with the number of shared texts, and not with what the bytes
-/// state. The caller chooses the scan `G`, by which keys of hashed maps are looked up.
+/// allocates grows with the depth that it reaches and with the number of shared texts and of wholes, and not with what the
+/// bytes state. The caller chooses the scan `G`, by which keys of hashed maps are looked up.
 pub fn check_scanned<G: Scan>(alloc: Global, bytes: &[u8]) -> Result<(), OpenRefusal>
     ensures accepted { OnOk result ((t : Tree) × Accepted bytes.now t) }
     ensures refused { IfErr result (λ r. IsRefusedFor bytes.now (refusal_of r)) }
 {
     match access_root(alloc, bytes) {
-        Ok(root) => audit::<G>(root, 0),
+        Ok(root) => match audit::<G>(root, 0, &mut BTreeMap::new(alloc)) {
+            Ok(_) => Ok(()),
+            Err(refusal) => Err(refusal),
+        },
         Err(error) => Err(refused(error)),
     }
 }

@@ -2,13 +2,11 @@
 ghost use Rattle.std.specs.Prelude.{◌≡◌, ◌-◌, ◌^◌, ◌<◌, ℕ, List, IsTrue, IfOk, IfErr, OnOk, OnErr};
 ghost use Rattle.archive_shape_writing.specs.Writing.{Cut};
 ghost use Rattle.cabinet_archived.specs.Documents.Image.{Image};
-ghost use Rattle.cabinet_archived.specs.Documents.NoWholes.{HasNoWholes};
 ghost use Rattle.cabinet_archives.specs.Saving.{HasNoImageFor, Saved, IsUnsavedFor};
 
 use archive_core_serializing::Serializer;
-use archive_forms_writing::serialize_using;
 use archive_shape_writing::{Error, Writer};
-use cabinet_archived::{NodeIn, TextShare};
+use cabinet_archived::{NodeIn, NodeShare, serialize_root};
 use cabinet_text_nodes::Document;
 use std::alloc::Global;
 use thiserror::Error as Described;
@@ -25,29 +23,19 @@ pub enum SaveRefusal {
     /// An allocation failed, possibly in a writer that counts no failures.
     #[error("out of memory")]
     OutOfMemory,
-    /// The document has wholes, which have no layout in archives.
-    #[error("a kind of node has no layout in archives")]
-    Kind,
 }
 
-/// Returns the image of a document, made in memory. Before that `Kind` is told of a document with wholes, and of no other.
+/// Returns the image of a document, made in memory. Each shared text and each whole is written once.
 pub fn to_bytes(alloc: Global, document: &Document) -> Result<Vec<u8>, SaveRefusal>
     ensures image { IfOk result (λ image. Image document.now image.items) }
-    ensures none { OnOk result (HasNoWholes document.now) }
     ensures refused { IfErr result (HasNoImageFor document.now) }
 {
-    if !document.wholes().is_empty() {
-        return Err(SaveRefusal::Kind);
-    }
-    let mut serializer = Serializer::new(Vec::new(alloc), alloc, TextShare::new(alloc));
+    let mut serializer = Serializer::new(Vec::new(alloc), alloc, NodeShare::new(alloc));
     let root = NodeIn {
-        wholes: &[],
+        wholes: document.wholes(),
         node: document.root(),
     };
-    match serialize_using::<NodeIn<'_>, Serializer<Vec<u8>, Global, TextShare>>(
-        &root,
-        &mut serializer,
-    ) {
+    match serialize_root(root, &mut serializer) {
         Ok(_) => Ok(serializer.into_writer()),
         Err(e) => match e {
             Error::OutOfMemory => Err(SaveRefusal::OutOfMemory),
@@ -57,7 +45,7 @@ pub fn to_bytes(alloc: Global, document: &Document) -> Result<Vec<u8>, SaveRefus
 }
 
 /// Writes the image of a document, which is first made in memory. The writer's position must be 0, so that positions in
-/// the image are positions in the writer's bytes. `Kind` is told of a document with wholes, and of no other.
+/// the image are positions in the writer's bytes.
 pub fn save<W: Writer>(
     alloc: Global,
     document: &Document,
@@ -67,7 +55,6 @@ pub fn save<W: Writer>(
     requires room { W.failures writer.old < 2 ^ 64 - 1 }
     ensures saved { OnOk result (IsTrue W.OBSERVABLE
         → Saved document.now (W.contents writer.old) (W.contents writer.new)) }
-    ensures none { OnOk result (HasNoWholes document.now) }
     ensures quiet { OnOk result (W.failures writer.new ≡ W.failures writer.old) }
     ensures refused { IfErr result (IsUnsavedFor W.Writer document.now writer.old writer.new) }
     // The bytes that the writer took are a prefix of the image.

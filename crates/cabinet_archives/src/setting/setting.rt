@@ -9,7 +9,7 @@ ghost use Rattle.cabinet_text_nodes.specs.Outcomes.{outcome_of};
 ghost use Rattle.cabinet_text_nodes.specs.View.{leaf_of, path_of};
 ghost use Rattle.cabinet_archives.specs.Setting.{EditLeaves};
 
-use crate::asking::find;
+use crate::asking::find_counted;
 use crate::setting::putting::put_leaf;
 use archive_core_validation::root_position;
 use archive_hash_probing::Scan;
@@ -18,8 +18,8 @@ use cabinet_archived::ArchivedNode;
 use cabinet_text_nodes::{Leaf, SetAnswer, Step};
 
 /// Writes a leaf at a path of the document that the bytes are the archive of, if the node there is a leaf of the same
-/// kind and, for a text, of the same length. Reads only the nodes on the path, and does not allocate. The caller chooses
-/// the scan `G`, by which keys of hashed maps are looked up.
+/// kind and, for a text, of the same length. What lies in a whole stays, since it may have other places too. Reads only the
+/// nodes on the path, and does not allocate. The caller chooses the scan `G`, by which keys of hashed maps are looked up.
 pub fn set<G: Scan>(bytes: &mut [u8], path: &[Step], leaf: &Leaf) -> SetAnswer
     requires { ∥ ((t : Tree) × Accepted bytes.old t) ∥₁ }
     ensures answer { (t : Tree) → Accepted bytes.old t
@@ -36,9 +36,12 @@ pub fn set<G: Scan>(bytes: &mut [u8], path: &[Step], leaf: &Leaf) -> SetAnswer
 {
     let new = leaf.as_ref();
     let root = root_position::<ArchivedNode>(bytes.len());
-    let Some(node) = find::<G>(Ref::new(bytes, root), path) else {
+    let Some(found) = find_counted::<G>(Ref::new(bytes, root), path).0 else {
         return SetAnswer::Missing;
     };
-    let pos = node.pos();
+    if found.in_whole {
+        return SetAnswer::Refused;
+    }
+    let pos = found.node.pos();
     put_leaf(bytes, pos, new)
 }

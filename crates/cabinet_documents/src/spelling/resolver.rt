@@ -24,4 +24,6 @@ pub enum NodeResolver {
     Hashed(HashTableResolver),
     /// A map that keeps its order, whose data is a table of numbers and its entries.
     Kept(IndexMapResolver),
+    /// A whole, whose data is written once.
+    Whole(RcResolver),
 }

@@ -1,5 +1,5 @@
 //! Worked archives that are the one archive of what they hold, by first fit.
-ghost use Rattle.cabinet_examples.specs.Canonical.{HashOfA, HashOfNothing, CanonicalNumber, CanonicalTruth, CanonicalNothing, CanonicalSomeNumber, CanonicalEmptyList, CanonicalLongText, CanonicalShortText, CanonicalSharedText, CanonicalEmptySharedText, CanonicalOrderedMap, CanonicalLeafOfFive, CanonicalTreeOfSix, CanonicalEmptyOrderedMap, CanonicalHashedMap, CanonicalTakenPlace, CanonicalNestedMaps, CanonicalKeptMap, CanonicalEmptyKeptMap};
+ghost use Rattle.cabinet_examples.specs.Canonical.{HashOfA, HashOfNothing, CanonicalNumber, CanonicalTruth, CanonicalNothing, CanonicalSomeNumber, CanonicalEmptyList, CanonicalLongText, CanonicalShortText, CanonicalSharedText, CanonicalEmptySharedText, CanonicalWhole, CanonicalOrderedMap, CanonicalLeafOfFive, CanonicalTreeOfSix, CanonicalEmptyOrderedMap, CanonicalHashedMap, CanonicalTakenPlace, CanonicalNestedMaps, CanonicalKeptMap, CanonicalEmptyKeptMap};
 
 /// The hash of the text `a`.
 pub fn hash_of_a()
@@ -54,6 +54,11 @@ pub fn shared_text_twice_is_canonical()
 /// A list of one empty shared text twice is canonical; a zero byte follows the text.
 pub fn empty_shared_text_twice_is_canonical()
     ensures { CanonicalEmptySharedText }
+{}
+
+/// A list of one whole twice is canonical; the whole's node is written once.
+pub fn whole_twice_is_canonical()
+    ensures { CanonicalWhole }
 {}
 
 /// An ordered map that is one leaf is canonical.

@@ -15,7 +15,7 @@ use std::collections::BTreeMap;
 
 /// Writes the lines of a node. A whole has only the line of its number.
 #[cycle(nodes)]
-pub(crate) fn write_node<W: Writer>(node: &Node, writer: &mut W) -> Result<(), Error>
+pub fn write_node<W: Writer>(node: &Node, writer: &mut W) -> Result<(), Error>
     requires { W.failures writer.old < 2 ^ 64 - 1 }
     ensures quiet { IfOk result (λ _. W.failures writer.new ≡ W.failures writer.old) }
     ensures lines { (table : List Tree) → IsTable table → IsTrue (known_below (length table) node.now)

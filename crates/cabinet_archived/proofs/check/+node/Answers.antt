@@ -4,7 +4,7 @@ use Rattle.std.specs.Int.{w64}
 use Rattle.archive_shape_layout.specs.Shape.Shape.{number, truth, text, shared, option, box, vector, tree, table, index_map}
 use Rattle.archive_shape_layout.specs.Shape.Pointee.{sized, str}
 use Rattle.archive_forms_values.proofs.FormsLaws.Levels.{option_box_sized}
-use Rattle.cabinet_documents.specs.Node.{node_shape, pair_shape}
+use Rattle.cabinet_documents.specs.Node.{node_shape, pair_shape, whole_shape}
 use Rattle.cabinet_archived.proofs.Nodes.{payload_checked, other_refused}
 use Rattle.cabinet_archived.proofs.check.+node.Goals as goal
 
@@ -48,10 +48,14 @@ pub check_node-returns-in-8-clause-exact : goal.check_node-returns-in-8-clause-e
 check_node-returns-in-8-clause-exact g t c = λ names known.
     payload_checked names c.args.bytes.now c.args.pos known _ _ 8 (index_map text node_shape) _ c.in-8.is refl (omega arith) (c.check_kept.ensures.exact names known)
 
+pub check_node-returns-in-9-clause-exact : goal.check_node-returns-in-9-clause-exact
+check_node-returns-in-9-clause-exact g t c = λ names known.
+    payload_checked names c.args.bytes.now c.args.pos known _ _ 9 whole_shape _ c.in-9.is refl (omega arith) (c.check_whole.ensures.exact names known)
+
 pub check_node-returns-in_default-clause-exact : goal.check_node-returns-in_default-clause-exact
 check_node-returns-in_default-clause-exact g t c = λ names known.
     let other = c.in_default in
-    other_refused names c.args.bytes.now c.args.pos known _ (g.C.ArchiveContext.kept c.args.context.now) (λ e. omega arith, λ e. omega arith, λ e. omega arith, λ e. omega arith, λ e. omega arith, λ e. omega arith, λ e. omega arith, λ e. omega arith) (λ e. omega arith)
+    other_refused names c.args.bytes.now c.args.pos known _ (g.C.ArchiveContext.kept c.args.context.now) (λ e. omega arith, λ e. omega arith, λ e. omega arith, λ e. omega arith, λ e. omega arith, λ e. omega arith, λ e. omega arith, λ e. omega arith, λ e. omega arith) (λ e. omega arith)
 
 pub check_hashed-returns-clause-exact : goal.check_hashed-returns-clause-exact
 check_hashed-returns-clause-exact g t c = λ names known. c.check_table_each.ensures.exact names (tt, known)

@@ -45,3 +45,9 @@ decreases-check_pair g l = 8 * l.room + 9
 
 abbrev pub decreases-check_pair-check_tuple2_each+arg5 : goal.decreases-check_pair-check_tuple2_each+arg5
 decreases-check_pair-check_tuple2_each+arg5 g l = 8 * l.room + 8
+
+abbrev pub decreases-check_whole : goal.decreases-check_whole
+decreases-check_whole g l = 8 * l.room + 6
+
+abbrev pub decreases-check_whole-check_rc_each : goal.decreases-check_whole-check_rc_each
+decreases-check_whole-check_rc_each g l = 8 * l.room + 5

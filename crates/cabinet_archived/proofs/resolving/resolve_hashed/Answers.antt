@@ -10,6 +10,6 @@ use Rattle.cabinet_archived.proofs.Resolved.{length-pairs_in}
 use Rattle.cabinet_archived.proofs.resolving.resolve_hashed.Goals as goal
 
 pub returns : goal.returns
-returns c =
-    entries_resolve text_hash text node_shape (table pair_shape) str_spelling node_spelling (pairs_within c.args.map.now.entries) c.args.resolver c.len-len.result _ _ _ _ _ _ _ _ c.resolve_from_len.result
-    (c.len-len.ensures.len ∙ sym (length-pairs_in c.args.map.now.entries)) c.within-place.ensures.pos c.within-place.ensures.start c.within-place.ensures.bytes c.resolve_from_len.ensures (search rules)
+returns c = λ wholes.
+    entries_resolve text_hash text node_shape (table pair_shape) str_spelling (node_spelling wholes) (pairs_within wholes c.args.map.now.entries) c.args.resolver c.len-len.result _ _ _ _ _ _ _ _ c.resolve_from_len.result
+    (c.len-len.ensures.len ∙ sym (length-pairs_in wholes c.args.map.now.entries)) c.within-place.ensures.pos c.within-place.ensures.start c.within-place.ensures.bytes c.resolve_from_len.ensures (search rules)

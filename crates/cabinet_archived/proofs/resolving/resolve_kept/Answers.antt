@@ -10,7 +10,7 @@ use Rattle.cabinet_archived.proofs.Resolved.{length-pairs_in}
 use Rattle.cabinet_archived.proofs.resolving.resolve_kept.Goals as goal
 
 pub returns : goal.returns
-returns c =
+returns c = λ wholes.
     let len : c.len.result ≡ length c.args.pairs.now.items = omega (arith, c.len.ensures, c.args.pairs.now.ok) in
-    pairs_resolve text_hash text node_shape str_spelling node_spelling (pairs_within c.args.pairs.now.items) c.args.resolver c.len.result c.args.out.pos c.args.out.start c.args.out.out.now _ c.requires.room c.resolve_from_len.result
-    (len ∙ sym (length-pairs_in c.args.pairs.now.items)) (search rules)
+    pairs_resolve text_hash text node_shape str_spelling (node_spelling wholes) (pairs_within wholes c.args.pairs.now.items) c.args.resolver c.len.result c.args.out.pos c.args.out.start c.args.out.out.now _ c.requires.room c.resolve_from_len.result
+    (len ∙ sym (length-pairs_in wholes c.args.pairs.now.items)) (search rules)

@@ -5,8 +5,8 @@ use Rattle.archive_shape_layout.specs.Shape.Shape.{number, truth, text, shared, 
 use Rattle.archive_shape_layout.specs.Shape.Pointee.{sized, str}
 use Rattle.archive_forms_values.specs.Parts.{both}
 use Rattle.archive_forms_values.proofs.FormsLaws.Levels.{option_box_sized}
-use Rattle.cabinet_documents.specs.Node.{node_shape, pair_shape, KnowsNode}
-use Rattle.cabinet_archived.proofs.Nodes.{tagged_at, is_kept}
+use Rattle.cabinet_documents.specs.Node.{node_shape, pair_shape, whole_shape, KnowsNode}
+use Rattle.cabinet_archived.proofs.Nodes.{tagged_at, is_whole}
 use Rattle.cabinet_archived.proofs.node.ArchivedNode.kind.Goals as goal
 
 pub returns-in-0 : goal.returns-in-0
@@ -65,11 +65,18 @@ returns-in-7 c = (
   tagged_at c.args.this.bytes.now c.args.this.pos c.requires 7 (table pair_shape) (both (λ _. ⊤) KnowsNode) _ c.new-in-7.ensures.pos c.in-7.is refl (omega arith) (omega arith) (λ names known. (tt, known)),
 )
 
+pub returns-in-8 : goal.returns-in-8
+returns-in-8 c = (
+  c.new-in-8.ensures.bytes,
+  c.new-in-8.ensures.pos,
+  tagged_at c.args.this.bytes.now c.args.this.pos c.requires 8 (index_map text node_shape) (both (λ _. ⊤) KnowsNode) _ c.new-in-8.ensures.pos c.in-8.is refl (omega arith) (omega arith) (λ names known. (tt, known)),
+)
+
 pub returns-in_default : goal.returns-in_default
 returns-in_default c =
     let other = c.in_default in
-    let tag = is_kept c.args.this.bytes.now c.args.this.pos c.requires (λ e. omega arith, λ e. omega arith, λ e. omega arith, λ e. omega arith, λ e. omega arith, λ e. omega arith, λ e. omega arith, λ e. omega arith) in (
+    let tag = is_whole c.args.this.bytes.now c.args.this.pos c.requires (λ e. omega arith, λ e. omega arith, λ e. omega arith, λ e. omega arith, λ e. omega arith, λ e. omega arith, λ e. omega arith, λ e. omega arith, λ e. omega arith) in (
       c.new-in_default.ensures.bytes,
       c.new-in_default.ensures.pos,
-      tagged_at c.args.this.bytes.now c.args.this.pos c.requires 8 (index_map text node_shape) (both (λ _. ⊤) KnowsNode) _ c.new-in_default.ensures.pos tag refl (omega arith) (omega arith) (λ names known. (tt, known)),
+      tagged_at c.args.this.bytes.now c.args.this.pos c.requires 9 whole_shape KnowsNode _ c.new-in_default.ensures.pos tag refl (omega arith) (omega arith) (λ names known. known),
     )

@@ -17,7 +17,7 @@ use Rattle.cabinet_archived.specs.Documents.Node.{node_shape, pair_shape, KnowsN
 use Rattle.cabinet_archived.specs.Index.Maps.{IsMapAt as IsIndexAt}
 use Rattle.cabinet_archived.proofs.Shared.{counted_there}
 use Rattle.cabinet_archives.proofs.Ways.{Boxed}
-use Rattle.cabinet_archives.proofs.Payloads.{text_has, text_is, leaf_head, shared_head, none_head, some_head, list_head, ordered_head, hashed_head, kept_head}
+use Rattle.cabinet_archives.proofs.Payloads.{text_has, text_is, leaf_head, shared_head, none_head, some_head, list_head, ordered_head, hashed_head, kept_head, whole_is_head}
 use Rattle.cabinet_archives.proofs.asking.heads.head.Goals as goal
 
 pub as_str-requires : goal.as_str-requires
@@ -95,3 +95,6 @@ returns-in-Kept c =
     let is = c.in-Kept.ensures in
     kept_head c.args.node.bytes.now c.args.node.pos c.in-Kept.map.pos c.len-in-Kept.result is.2
     (λ m stands. c.len-in-Kept.ensures m (subst (λ (x : Bor (List ℕ)). IsIndexAt x.now text node_shape c.in-Kept.map.pos m) (sym is.0) stands))
+
+pub returns-in-Whole : goal.returns-in-Whole
+returns-in-Whole c = whole_is_head c.args.node.bytes.now c.args.node.pos c.in-Whole.field-0.pos c.in-Whole.ensures.2

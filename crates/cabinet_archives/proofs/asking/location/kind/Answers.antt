@@ -2,7 +2,7 @@ use Rattle.std.specs.Prelude.{true, false, ⊤}
 use Rattle.std.specs.Int.{w64}
 use Rattle.archive_shape.specs.ShapeLayout.Shape.Shape.{number, truth, text, shared, option, vector}
 use Rattle.archive_shape.specs.ShapeLayout.Shape.Pointee.{str}
-use Rattle.cabinet_archived.specs.Documents.Node.{node_shape, KnowsNode}
+use Rattle.cabinet_archived.specs.Documents.Node.{node_shape, KnowsNode, whole_shape}
 use Rattle.cabinet_archives.specs.Hashed.{table_shape}
 use Rattle.cabinet_archives.specs.Kept.{index_shape}
 use Rattle.cabinet_archives.specs.Keyed.{knows_pairs}
@@ -37,3 +37,6 @@ returns-in-Hashed c = kind_is c.args.node.bytes.now c.args.node.pos 7 table_shap
 
 pub returns-in-Kept : goal.returns-in-Kept
 returns-in-Kept c = kind_is c.args.node.bytes.now c.args.node.pos 8 index_shape knows_pairs _ c.in-Kept.ensures.2
+
+pub returns-in-Whole : goal.returns-in-Whole
+returns-in-Whole c = kind_is c.args.node.bytes.now c.args.node.pos 9 whole_shape KnowsNode _ c.in-Whole.ensures.2

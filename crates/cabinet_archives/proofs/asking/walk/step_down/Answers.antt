@@ -1,7 +1,8 @@
-use Rattle.std.proofs.Common.{◌≡◌, refl, ap, sym, subst, ◌∙◌, arith, Bor, List, ℕ, MatchOption}
+use Rattle.std.proofs.Common.{◌≡◌, refl, ap, sym, subst, ◌∙◌, arith, Bor, List, ℕ, false, MatchOption}
 use Rattle.std.specs.Prelude.{IfSome}
 use Rattle.archive_shape.specs.ShapeLayout.Content.Part.{at}
 use Rattle.archive_forms_values.specs.Parts.{HasValue, IsNoneAt, IsSomeAt, IsBoxAt, IsVecAt}
+use Rattle.archive_forms_rc.specs.Pointers.{IsRcAt}
 use Rattle.cabinet_archived.specs.Documents.Node.{node_shape, KnowsNode}
 use Rattle.cabinet_text_nodes.specs.TextGrammar.Path.{key as key_step}
 use Rattle.cabinet_text_nodes.specs.View.{step_of}
@@ -11,14 +12,14 @@ use Rattle.cabinet_archives.specs.Ordered.{map_shape, HasEntry}
 use Rattle.cabinet_archives.specs.Way.{StepsTo, steps_key, steps_hashed, steps_kept}
 use Rattle.cabinet_archives.specs.Keyed.{KeyLeads, KeyLeadsNowhere, OfMap}
 use Rattle.cabinet_archives.specs.Sound.{IsSoundPart}
-use Rattle.cabinet_archives.proofs.Ways.{Boxed, matched, empty_none, content_there, content_reached, past_none, element_reached, by_key, found_as}
+use Rattle.cabinet_archives.proofs.Ways.{Boxed, matched, empty_none, content_there, content_reached, whole_reached, whole_entered, past_none, element_reached, by_key, found_as}
 use Rattle.cabinet_archives.proofs.Tags.{tag_is}
 use Rattle.std.proofs.Math.Logic.{∥∥₁_map}
 use Rattle.cabinet_archives.proofs.Soundness.{payload_sound}
 use Rattle.cabinet_archives.specs.Cost.{no_look_up}
 use Rattle.cabinet_archives.proofs.Costs.{inside_takes, place_takes, ordered_takes, hashed_takes, kept_takes}
-use Rattle.cabinet_archives.proofs.NoSteps.{not_inside, no_place, no_key, no_step, none_looked_up}
-use Rattle.cabinet_archives.proofs.asking.walk.step_down.Goals.{in_default-via-in-Maybe+in_default, in_default-via-in-List+in_default, in_default-via-in-Ordered+in_default, in_default-via-in-Hashed+in_default, in_default-via-in-Kept+in_default, in_default-via-in_default}
+use Rattle.cabinet_archives.proofs.NoSteps.{not_inside, no_place, no_key, no_step, none_looked_up, outside, not_into_whole}
+use Rattle.cabinet_archives.proofs.asking.walk.step_down.Goals.{in_default-via-in-Maybe+in_default, in_default-via-in-List+in_default, in_default-via-in-Ordered+in_default, in_default-via-in-Hashed+in_default, in_default-via-in-Kept+in_default, in_default-via-in-Whole+in_default, in_default-via-in_default}
 use Rattle.cabinet_archives.proofs.asking.walk.step_down.Goals as goal
 
 pub returns-in-None-clause-next : goal.returns-in-None-clause-next
@@ -53,6 +54,18 @@ returns-in-Some-clause-next g c =
 pub returns-in-Some-clause-takes : goal.returns-in-Some-clause-takes
 returns-in-Some-clause-takes g c = inside_takes c.args.node.bytes.now c.args.node.pos (step_of c.args.step.now) (ap step_of c.in-Maybe-Inside.is-1)
 
+pub returns-in-Whole-Inside-clause-next : goal.returns-in-Whole-Inside-clause-next
+returns-in-Whole-Inside-clause-next g c =
+    let is = c.in-Whole-Inside.ensures in
+    let whole = c.in-Whole-Inside.whole in
+    let rc = subst (λ (b : Bor (List ℕ)). IsRcAt false node_shape KnowsNode b.now whole.pos c.get-in-Whole-Inside.result.pos) is.0 c.get-in-Whole-Inside.ensures.value in (
+      c.get-in-Whole-Inside.ensures.bytes ∙ is.0,
+      whole_reached c.args.node.bytes.now c.args.node.pos whole.pos is.2 c.requires.there c.requires.sound (step_of c.args.step.now) c.get-in-Whole-Inside.result.pos (ap step_of c.in-Whole-Inside.is-1) is.1 rc,
+    )
+
+pub returns-in-Whole-Inside-clause-takes : goal.returns-in-Whole-Inside-clause-takes
+returns-in-Whole-Inside-clause-takes g c = inside_takes c.args.node.bytes.now c.args.node.pos (step_of c.args.step.now) (ap step_of c.in-Whole-Inside.is-1)
+
 pub returns-in-List-Place-clause-takes : goal.returns-in-List-Place-clause-takes
 returns-in-List-Place-clause-takes g c = place_takes c.args.node.bytes.now c.args.node.pos (step_of c.args.step.now) c.in-List-Place.place (ap step_of c.in-List-Place.is-1)
 
@@ -83,7 +96,7 @@ returns-in-Ordered-Key-clause-next g c =
     let key = c.as_str.result.now in
     let step_is = ap step_of c.in-Ordered-Key.is-1 ∙ ap key_step (sym c.as_str.ensures.value) in
     let got = c.get_counted.ensures in
-    by_key bytes pos map.pos is.2 (omega arith) (step_of c.args.step.now) key step_is c.get_counted.result.0
+    by_key bytes pos map.pos is.2 (omega arith) (omega arith) (step_of c.args.step.now) key step_is c.get_counted.result.0
     (subst (λ (b : Bor (List ℕ)). OfMap map_shape b.now map.pos (λ v. MatchOption c.get_counted.result.0 (KeyLeadsNowhere v key) (λ node. (node.bytes ≡ b) × KeyLeads b.now v key node.pos))) is.0 got.leads)
     (found_as (λ node. HasEntry bytes.now map.pos key node.pos) (λ node. StepsTo bytes.now pos (step_of c.args.step.now) node.pos) c.get_counted.result.0
     (λ node entry. steps_key step_is (tag_is bytes.now pos c.requires.there is.2) (subst (λ n. HasEntry bytes.now n key node.pos) is.1 entry))
@@ -106,7 +119,7 @@ returns-in-Hashed-Key-clause-next g c =
     let key = c.as_str-in-Hashed-Key.result.now in
     let step_is = ap step_of c.in-Hashed-Key.is-1 ∙ ap key_step (sym c.as_str-in-Hashed-Key.ensures.value) in
     let got = c.get_counted-in-Hashed-Key.ensures in
-    by_key bytes pos map.pos is.2 (omega arith) (step_of c.args.step.now) key step_is c.get_counted-in-Hashed-Key.result.0
+    by_key bytes pos map.pos is.2 (omega arith) (omega arith) (step_of c.args.step.now) key step_is c.get_counted-in-Hashed-Key.result.0
     (subst (λ (b : Bor (List ℕ)). OfMap table_shape b.now map.pos (λ v. MatchOption c.get_counted-in-Hashed-Key.result.0 (KeyLeadsNowhere v key) (λ node. (node.bytes ≡ b) × KeyLeads b.now v key node.pos))) is.0 got.leads)
     (found_as (λ node. HasBucket bytes.now map.pos key node.pos) (λ node. StepsTo bytes.now pos (step_of c.args.step.now) node.pos) c.get_counted-in-Hashed-Key.result.0
     (λ node bucket. steps_hashed step_is (tag_is bytes.now pos c.requires.there is.2) (subst (λ n. HasBucket bytes.now n key node.pos) is.1 bucket))
@@ -129,7 +142,7 @@ returns-in-Kept-Key-clause-next g c =
     let key = c.as_str-in-Kept-Key.result.now in
     let step_is = ap step_of c.in-Kept-Key.is-1 ∙ ap key_step (sym c.as_str-in-Kept-Key.ensures.value) in
     let got = c.get_counted-in-Kept-Key.ensures in
-    by_key bytes pos map.pos is.2 (omega arith) (step_of c.args.step.now) key step_is c.get_counted-in-Kept-Key.result.0
+    by_key bytes pos map.pos is.2 (omega arith) (omega arith) (step_of c.args.step.now) key step_is c.get_counted-in-Kept-Key.result.0
     (subst (λ (b : Bor (List ℕ)). OfMap index_shape b.now map.pos (λ v. MatchOption c.get_counted-in-Kept-Key.result.0 (KeyLeadsNowhere v key) (λ node. (node.bytes ≡ b) × KeyLeads b.now v key node.pos))) is.0 got.leads)
     (found_as (λ node. HasNumbered bytes.now map.pos key node.pos) (λ node. StepsTo bytes.now pos (step_of c.args.step.now) node.pos) c.get_counted-in-Kept-Key.result.0
     (λ node numbered. steps_kept step_is (tag_is bytes.now pos c.requires.there is.2) (subst (λ n. HasNumbered bytes.now n key node.pos) is.1 numbered))
@@ -164,34 +177,62 @@ pub returns-in_default-clause-next : goal.returns-in_default-clause-next
 returns-in_default-clause-next g c =
     let none = no_step c.args.node.bytes c.args.node.pos c.kind.result (step_of c.args.step.now) c.kind.ensures in
     elim c.in_default.branch [
-      | in_default-via-in-Maybe+in_default w ↦
-          none (λ r e. not_inside c.args.step.now w.in_default.not-Inside-1) (λ r e. let is = w.in_default.is-0 in absurd (cc)) (λ r e. let is = w.in_default.is-0 in absurd (cc)) (λ r e. let is = w.in_default.is-0 in absurd (cc)) (λ r e. let is = w.in_default.is-0 in absurd (cc))
-      | in_default-via-in-List+in_default w ↦
-          none (λ r e. let is = w.in_default.is-0 in absurd (cc)) (λ r e. no_place c.args.step.now w.in_default.not-Place-1) (λ r e. let is = w.in_default.is-0 in absurd (cc)) (λ r e. let is = w.in_default.is-0 in absurd (cc)) (λ r e. let is = w.in_default.is-0 in absurd (cc))
-      | in_default-via-in-Ordered+in_default w ↦
-          none (λ r e. let is = w.in_default.is-0 in absurd (cc)) (λ r e. let is = w.in_default.is-0 in absurd (cc)) (λ r e. no_key c.args.step.now w.in_default.not-Key-1) (λ r e. let is = w.in_default.is-0 in absurd (cc)) (λ r e. let is = w.in_default.is-0 in absurd (cc))
-      | in_default-via-in-Hashed+in_default w ↦
-          none (λ r e. let is = w.in_default.is-0 in absurd (cc)) (λ r e. let is = w.in_default.is-0 in absurd (cc)) (λ r e. let is = w.in_default.is-0 in absurd (cc)) (λ r e. no_key c.args.step.now w.in_default.not-Key-1) (λ r e. let is = w.in_default.is-0 in absurd (cc))
-      | in_default-via-in-Kept+in_default w ↦
-          none (λ r e. let is = w.in_default.is-0 in absurd (cc)) (λ r e. let is = w.in_default.is-0 in absurd (cc)) (λ r e. let is = w.in_default.is-0 in absurd (cc)) (λ r e. let is = w.in_default.is-0 in absurd (cc)) (λ r e. no_key c.args.step.now w.in_default.not-Key-1)
-      | in_default-via-in_default w ↦
-          none (λ r e. absurd (w.in_default.not-Maybe-0 r e)) (λ r e. absurd (w.in_default.not-List-0 r e)) (λ r e. absurd (w.in_default.not-Ordered-0 r e)) (λ r e. absurd (w.in_default.not-Hashed-0 r e)) (λ r e. absurd (w.in_default.not-Kept-0 r e))
+      | in_default-via-in-Maybe+in_default w ↦ none (λ r e. not_inside c.args.step.now w.in_default.not-Inside-1) (λ r e. let is = w.in_default.is-0 in absurd (cc)) (λ r e. let is = w.in_default.is-0 in absurd (cc)) (λ r e. let is = w.in_default.is-0 in absurd (cc)) (λ r e. let is = w.in_default.is-0 in absurd (cc)) (λ r e. let is = w.in_default.is-0 in absurd (cc))
+      | in_default-via-in-List+in_default w ↦ none (λ r e. let is = w.in_default.is-0 in absurd (cc)) (λ r e. no_place c.args.step.now w.in_default.not-Place-1) (λ r e. let is = w.in_default.is-0 in absurd (cc)) (λ r e. let is = w.in_default.is-0 in absurd (cc)) (λ r e. let is = w.in_default.is-0 in absurd (cc)) (λ r e. let is = w.in_default.is-0 in absurd (cc))
+      | in_default-via-in-Ordered+in_default w ↦ none (λ r e. let is = w.in_default.is-0 in absurd (cc)) (λ r e. let is = w.in_default.is-0 in absurd (cc)) (λ r e. no_key c.args.step.now w.in_default.not-Key-1) (λ r e. let is = w.in_default.is-0 in absurd (cc)) (λ r e. let is = w.in_default.is-0 in absurd (cc)) (λ r e. let is = w.in_default.is-0 in absurd (cc))
+      | in_default-via-in-Hashed+in_default w ↦ none (λ r e. let is = w.in_default.is-0 in absurd (cc)) (λ r e. let is = w.in_default.is-0 in absurd (cc)) (λ r e. let is = w.in_default.is-0 in absurd (cc)) (λ r e. no_key c.args.step.now w.in_default.not-Key-1) (λ r e. let is = w.in_default.is-0 in absurd (cc)) (λ r e. let is = w.in_default.is-0 in absurd (cc))
+      | in_default-via-in-Kept+in_default w ↦ none (λ r e. let is = w.in_default.is-0 in absurd (cc)) (λ r e. let is = w.in_default.is-0 in absurd (cc)) (λ r e. let is = w.in_default.is-0 in absurd (cc)) (λ r e. let is = w.in_default.is-0 in absurd (cc)) (λ r e. no_key c.args.step.now w.in_default.not-Key-1) (λ r e. let is = w.in_default.is-0 in absurd (cc))
+      | in_default-via-in-Whole+in_default w ↦ none (λ r e. let is = w.in_default.is-0 in absurd (cc)) (λ r e. let is = w.in_default.is-0 in absurd (cc)) (λ r e. let is = w.in_default.is-0 in absurd (cc)) (λ r e. let is = w.in_default.is-0 in absurd (cc)) (λ r e. let is = w.in_default.is-0 in absurd (cc)) (λ r e. not_inside c.args.step.now w.in_default.not-Inside-1)
+      | in_default-via-in_default w ↦ none (λ r e. absurd (w.in_default.not-Maybe-0 r e)) (λ r e. absurd (w.in_default.not-List-0 r e)) (λ r e. absurd (w.in_default.not-Ordered-0 r e)) (λ r e. absurd (w.in_default.not-Hashed-0 r e)) (λ r e. absurd (w.in_default.not-Kept-0 r e)) (λ r e. absurd (w.in_default.not-Whole-0 r e))
     ]
 
 pub returns-in_default-clause-takes : goal.returns-in_default-clause-takes
 returns-in_default-clause-takes g c = no_look_up (λ look.
     let none = none_looked_up c.args.node.bytes c.args.node.pos c.requires.there c.kind.result (step_of c.args.step.now) c.kind.ensures in
     elim c.in_default.branch [
-      | in_default-via-in-Maybe+in_default w ↦
-          none (λ r e. let is = w.in_default.is-0 in absurd (cc)) (λ r e. let is = w.in_default.is-0 in absurd (cc)) (λ r e. let is = w.in_default.is-0 in absurd (cc)) look
-      | in_default-via-in-List+in_default w ↦
-          none (λ r e. let is = w.in_default.is-0 in absurd (cc)) (λ r e. let is = w.in_default.is-0 in absurd (cc)) (λ r e. let is = w.in_default.is-0 in absurd (cc)) look
-      | in_default-via-in-Ordered+in_default w ↦
-          none (λ r e. no_key c.args.step.now w.in_default.not-Key-1) (λ r e. let is = w.in_default.is-0 in absurd (cc)) (λ r e. let is = w.in_default.is-0 in absurd (cc)) look
-      | in_default-via-in-Hashed+in_default w ↦
-          none (λ r e. let is = w.in_default.is-0 in absurd (cc)) (λ r e. no_key c.args.step.now w.in_default.not-Key-1) (λ r e. let is = w.in_default.is-0 in absurd (cc)) look
-      | in_default-via-in-Kept+in_default w ↦
-          none (λ r e. let is = w.in_default.is-0 in absurd (cc)) (λ r e. let is = w.in_default.is-0 in absurd (cc)) (λ r e. no_key c.args.step.now w.in_default.not-Key-1) look
-      | in_default-via-in_default w ↦
-          none (λ r e. absurd (w.in_default.not-Ordered-0 r e)) (λ r e. absurd (w.in_default.not-Hashed-0 r e)) (λ r e. absurd (w.in_default.not-Kept-0 r e)) look
+      | in_default-via-in-Maybe+in_default w ↦ none (λ r e. let is = w.in_default.is-0 in absurd (cc)) (λ r e. let is = w.in_default.is-0 in absurd (cc)) (λ r e. let is = w.in_default.is-0 in absurd (cc)) look
+      | in_default-via-in-List+in_default w ↦ none (λ r e. let is = w.in_default.is-0 in absurd (cc)) (λ r e. let is = w.in_default.is-0 in absurd (cc)) (λ r e. let is = w.in_default.is-0 in absurd (cc)) look
+      | in_default-via-in-Ordered+in_default w ↦ none (λ r e. no_key c.args.step.now w.in_default.not-Key-1) (λ r e. let is = w.in_default.is-0 in absurd (cc)) (λ r e. let is = w.in_default.is-0 in absurd (cc)) look
+      | in_default-via-in-Hashed+in_default w ↦ none (λ r e. let is = w.in_default.is-0 in absurd (cc)) (λ r e. no_key c.args.step.now w.in_default.not-Key-1) (λ r e. let is = w.in_default.is-0 in absurd (cc)) look
+      | in_default-via-in-Kept+in_default w ↦ none (λ r e. let is = w.in_default.is-0 in absurd (cc)) (λ r e. let is = w.in_default.is-0 in absurd (cc)) (λ r e. no_key c.args.step.now w.in_default.not-Key-1) look
+      | in_default-via-in-Whole+in_default w ↦ none (λ r e. let is = w.in_default.is-0 in absurd (cc)) (λ r e. let is = w.in_default.is-0 in absurd (cc)) (λ r e. let is = w.in_default.is-0 in absurd (cc)) look
+      | in_default-via-in_default w ↦ none (λ r e. absurd (w.in_default.not-Ordered-0 r e)) (λ r e. absurd (w.in_default.not-Hashed-0 r e)) (λ r e. absurd (w.in_default.not-Kept-0 r e)) look
     ]) refl refl
+
+pub returns-in_default-clause-whole : goal.returns-in_default-clause-whole
+returns-in_default-clause-whole g c =
+    let none = not_into_whole c.args.node.bytes c.args.node.pos c.kind.result (step_of c.args.step.now) c.kind.ensures in
+    elim c.in_default.branch [
+      | in_default-via-in-Maybe+in_default w ↦ none (λ r e. let is = w.in_default.is-0 in absurd (cc))
+      | in_default-via-in-List+in_default w ↦ none (λ r e. let is = w.in_default.is-0 in absurd (cc))
+      | in_default-via-in-Ordered+in_default w ↦ none (λ r e. let is = w.in_default.is-0 in absurd (cc))
+      | in_default-via-in-Hashed+in_default w ↦ none (λ r e. let is = w.in_default.is-0 in absurd (cc))
+      | in_default-via-in-Kept+in_default w ↦ none (λ r e. let is = w.in_default.is-0 in absurd (cc))
+      | in_default-via-in-Whole+in_default w ↦ none (λ r e. not_inside c.args.step.now w.in_default.not-Inside-1)
+      | in_default-via-in_default w ↦ none (λ r e. absurd (w.in_default.not-Whole-0 r e))
+    ]
+
+pub returns-in-Some-clause-whole : goal.returns-in-Some-clause-whole
+returns-in-Some-clause-whole g c = outside c.args.node.bytes.now c.args.node.pos (step_of c.args.step.now) c.in-Maybe-Inside.ensures.2 (λ e. absurd (omega (arith, e)))
+
+pub returns-in-None-clause-whole : goal.returns-in-None-clause-whole
+returns-in-None-clause-whole g c = outside c.args.node.bytes.now c.args.node.pos (step_of c.args.step.now) c.in-Maybe-Inside.ensures.2 (λ e. absurd (omega (arith, e)))
+
+pub returns-in-List-Place-clause-whole : goal.returns-in-List-Place-clause-whole
+returns-in-List-Place-clause-whole g c = outside c.args.node.bytes.now c.args.node.pos (step_of c.args.step.now) c.in-List-Place.ensures.2 (λ e. absurd (omega (arith, e)))
+
+pub returns-in-Ordered-Key-clause-whole : goal.returns-in-Ordered-Key-clause-whole
+returns-in-Ordered-Key-clause-whole g c = outside c.args.node.bytes.now c.args.node.pos (step_of c.args.step.now) c.in-Ordered-Key.ensures.2 (λ e. absurd (omega (arith, e)))
+
+pub returns-in-Hashed-Key-clause-whole : goal.returns-in-Hashed-Key-clause-whole
+returns-in-Hashed-Key-clause-whole g c = outside c.args.node.bytes.now c.args.node.pos (step_of c.args.step.now) c.in-Hashed-Key.ensures.2 (λ e. absurd (omega (arith, e)))
+
+pub returns-in-Kept-Key-clause-whole : goal.returns-in-Kept-Key-clause-whole
+returns-in-Kept-Key-clause-whole g c = outside c.args.node.bytes.now c.args.node.pos (step_of c.args.step.now) c.in-Kept-Key.ensures.2 (λ e. absurd (omega (arith, e)))
+
+pub returns-in-Whole-Inside-clause-whole : goal.returns-in-Whole-Inside-clause-whole
+returns-in-Whole-Inside-clause-whole g c =
+    let is = c.in-Whole-Inside.ensures in
+    let whole = c.in-Whole-Inside.whole in
+    let rc = subst (λ (b : Bor (List ℕ)). IsRcAt false node_shape KnowsNode b.now whole.pos c.get-in-Whole-Inside.result.pos) is.0 c.get-in-Whole-Inside.ensures.value in
+    whole_entered c.args.node.bytes.now c.args.node.pos whole.pos is.2 (step_of c.args.step.now) c.get-in-Whole-Inside.result.pos (ap step_of c.in-Whole-Inside.is-1) rc

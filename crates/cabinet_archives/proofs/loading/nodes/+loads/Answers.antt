@@ -1,36 +1,45 @@
-use Rattle.std.proofs.Common.{ℕ, [], ◌∷◌, length, length-append, ◌+◌, ◌-◌, ◌*◌, ◌<◌, List, Bor, to_z, of_z, refl, sym, ap, subst, ◌∙◌, arith, rules}
+use Rattle.std.proofs.Common.{◌≡◌, get_or, drop, drop-cons, add-one, ℕ, [], ◌∷◌, length, length-append, ◌+◌, ◌-◌, ◌*◌, ◌<◌, ◌≤◌, List, Some, Bor, to_z, of_z, refl, sym, ap, ap₂, subst, ◌∙◌, arith, rules}
 use Rattle.std.specs.Prelude.{All, true, false, ⊤}
 use Rattle.std.specs.Int.{w64}
 use Rattle.std.proofs.lemmas.Int.{to_z-of_z}
+use Rattle.std.proofs.lemmas.List.{drop_all}
 use Rattle.archive_shape.specs.ShapeLayout.Bytes.{window}
 use Rattle.archive_shape.specs.ShapeLayout.Shape.Shape.{number, truth, text, option, vector}
 use Rattle.archive_shape.specs.ShapeLayout.Shape.Pointee.{str}
-use Rattle.archive_shape.specs.ShapeLayout.Value.Value.{integer}
+use Rattle.archive_shape.specs.ShapeLayout.Value.Value.{integer, string}
 use Rattle.archive_shape.specs.Key.{HeldAt}
 use Rattle.archive_forms_rc.specs.Pointers.{HasCounted, IsRcStrAt}
 use Rattle.archive_forms_values.specs.FormsLaws.Text.{HasText, IsText}
 use Rattle.archive_forms_values.specs.Parts.{IsBoxAt}
 use Rattle.archive_forms_values.proofs.Inside.{some_says}
 use Rattle.cabinet_text_nodes.specs.TextGrammar.Tree as tree
+use Rattle.cabinet_text_nodes.specs.TextGrammar.Tree.{Pairs, IsLegal}
+use Rattle.cabinet_text_nodes.specs.TextGrammar.Wholes.{numbered, with_tree, with_wholes}
 use Rattle.cabinet_archived.specs.Documents.Denotes.{tagged_value}
-use Rattle.cabinet_archived.specs.Documents.Node.{node_shape, KnowsNode}
+use Rattle.cabinet_archived.specs.Documents.Node.{node_shape, whole_shape, KnowsNode}
 use Rattle.cabinet_archived.proofs.Shared.{counted_there}
 use Rattle.cabinet_archives.specs.Hashed.{table_shape}
 use Rattle.cabinet_archives.specs.Kept.{index_shape}
 use Rattle.cabinet_archives.specs.Keyed.{knows_pairs}
-use Rattle.cabinet_archives.specs.Loading.{AreReadOf, HasTree, OfTree}
+use Rattle.cabinet_archives.specs.Loading.{AreReadOf, AreWholesOf, HasTree, OfTree, IsEntry, IsLoaded, ArePairsLoaded, LeadTo, loaded_table}
 use Rattle.cabinet_archives.specs.Ordered.{map_shape}
 use Rattle.cabinet_text_nodes.specs.TextGrammar.Keys.{ordered, hashed, kept}
 use Rattle.cabinet_text_nodes.specs.View.{node_tree, node_pairs}
-use Rattle.cabinet_text_nodes.proofs.Views.{node_tree-bool, node_tree-int, node_tree-text, node_tree-shared, node_tree-none, node_tree-some, node_tree-list, node_tree-ordered, node_tree-hashed, node_tree-kept}
+use Rattle.cabinet_text_nodes.proofs.Views.{node_tree-bool, node_tree-int, node_tree-text, node_tree-shared, node_tree-none, node_tree-some, node_tree-list, node_tree-ordered, node_tree-hashed, node_tree-kept, node_tree-whole}
 use Rattle.archive_shape.specs.ShapeLayout.Shape.{size_of}
-use Rattle.cabinet_archives.proofs.Loaded.{AreTreesAt, inside_few, boxed_there, payload_tree, passed_on, boxed_tree, just_tree, nothing_tree, element_there, one_more, list_tree}
-use Rattle.cabinet_archives.proofs.LoadedMaps.{ordered_there, ordered_left, hashed_there, hashed_left, kept_there, kept_left}
-use Rattle.cabinet_archives.proofs.LoadedPairs.{AreLeft, IsPairOf, first_pair, first_key, first_node, later_pairs, left_on, left_none}
-use Rattle.cabinet_archives.proofs.LoadedRoot.{tree_as, loaded_as}
+use Rattle.cabinet_archives.proofs.Added.{ordered_is, hashed_is}
+use Rattle.cabinet_archives.proofs.Loaded.{ElementsLeft, inside_few, boxed_there, payload_tree, passed_on, loaded_leaf, loaded_shared, boxed_tree, just_tree, nothing_tree, inner_tree, whole_tree, element_there, none_loaded, one_loaded, all_loaded}
+use Rattle.cabinet_archives.proofs.LoadedEntries.{same_string}
+use Rattle.cabinet_archives.proofs.LoadedPairs as pairs
+use Rattle.cabinet_archives.proofs.LoadedRoot.{tree_as}
+use Rattle.cabinet_archives.proofs.LoadedTrees.{Grows, grows_wholes, AreNodesLegal, one_legal, nodes_of, whole_numbered, whole_again}
+use Rattle.cabinet_archives.proofs.Put.{of_same}
 use Rattle.cabinet_archives.proofs.Payloads.{text_has, text_is, leaf_tree, shared_tree}
 use Rattle.cabinet_archives.proofs.Ways.{Boxed}
 use Rattle.cabinet_archives.proofs.loading.nodes.+loads.Goals as goal
+
+drop_here : {A : Type 0} (xs : List A) (i : ℕ) (d : A) → i < length xs → drop i xs ≡ get_or xs i d ∷ drop (i + 1) xs
+drop_here xs i d less = drop-cons xs i d less ∙ ap (λ j. get_or xs i d ∷ drop j xs) (sym (add-one i))
 
 -- ---- nodes
 
@@ -49,6 +58,7 @@ load_node-load_option-requires t c =
     let is = c.in-Maybe.ensures in
     let there = subst (λ (b : Bor (List ℕ)). HasTree (tagged_value 4) (option Boxed) KnowsNode b.now c.in-Maybe.maybe.pos c.args.outer) (sym is.0) (payload_tree c.args.node.bytes.now is.2 c.requires.there) in
     let kept = subst (λ (b : Bor (List ℕ)). AreReadOf b.now c.args.texts.now) (sym is.0) c.requires.kept in
+    let known = subst (λ (b : Bor (List ℕ)). AreWholesOf b.now c.args.wholes.now) (sym is.0) c.requires.known in
     search rules
 
 pub load_node-load_list-requires : goal.load_node-load_list-requires
@@ -56,6 +66,7 @@ load_node-load_list-requires t c =
     let is = c.in-List.ensures in
     let there = subst (λ (b : Bor (List ℕ)). HasTree (tagged_value 5) (vector node_shape) KnowsNode b.now c.in-List.list.pos c.args.outer) (sym is.0) (payload_tree c.args.node.bytes.now is.2 c.requires.there) in
     let kept = subst (λ (b : Bor (List ℕ)). AreReadOf b.now c.args.texts.now) (sym is.0) c.requires.kept in
+    let known = subst (λ (b : Bor (List ℕ)). AreWholesOf b.now c.args.wholes.now) (sym is.0) c.requires.known in
     search rules
 
 pub load_node-load_ordered-requires : goal.load_node-load_ordered-requires
@@ -63,6 +74,7 @@ load_node-load_ordered-requires t c =
     let is = c.in-Ordered.ensures in
     let there = subst (λ (b : Bor (List ℕ)). HasTree (tagged_value 6) map_shape knows_pairs b.now c.in-Ordered.map.pos c.args.outer) (sym is.0) (payload_tree c.args.node.bytes.now is.2 c.requires.there) in
     let kept = subst (λ (b : Bor (List ℕ)). AreReadOf b.now c.args.texts.now) (sym is.0) c.requires.kept in
+    let known = subst (λ (b : Bor (List ℕ)). AreWholesOf b.now c.args.wholes.now) (sym is.0) c.requires.known in
     search rules
 
 pub load_node-load_hashed-requires : goal.load_node-load_hashed-requires
@@ -70,6 +82,7 @@ load_node-load_hashed-requires t c =
     let is = c.in-Hashed.ensures in
     let there = subst (λ (b : Bor (List ℕ)). HasTree (tagged_value 7) table_shape knows_pairs b.now c.in-Hashed.map.pos c.args.outer) (sym is.0) (payload_tree c.args.node.bytes.now is.2 c.requires.there) in
     let kept = subst (λ (b : Bor (List ℕ)). AreReadOf b.now c.args.texts.now) (sym is.0) c.requires.kept in
+    let known = subst (λ (b : Bor (List ℕ)). AreWholesOf b.now c.args.wholes.now) (sym is.0) c.requires.known in
     search rules
 
 pub load_node-load_kept-requires : goal.load_node-load_kept-requires
@@ -77,6 +90,15 @@ load_node-load_kept-requires t c =
     let is = c.in-Kept.ensures in
     let there = subst (λ (b : Bor (List ℕ)). HasTree (tagged_value 8) index_shape knows_pairs b.now c.in-Kept.map.pos c.args.outer) (sym is.0) (payload_tree c.args.node.bytes.now is.2 c.requires.there) in
     let kept = subst (λ (b : Bor (List ℕ)). AreReadOf b.now c.args.texts.now) (sym is.0) c.requires.kept in
+    let known = subst (λ (b : Bor (List ℕ)). AreWholesOf b.now c.args.wholes.now) (sym is.0) c.requires.known in
+    search rules
+
+pub load_node-load_whole-requires : goal.load_node-load_whole-requires
+load_node-load_whole-requires t c =
+    let is = c.in-Whole.ensures in
+    let there = subst (λ (b : Bor (List ℕ)). HasTree (tagged_value 9) whole_shape KnowsNode b.now c.in-Whole.whole.pos c.args.outer) (sym is.0) (payload_tree c.args.node.bytes.now is.2 c.requires.there) in
+    let kept = subst (λ (b : Bor (List ℕ)). AreReadOf b.now c.args.texts.now) (sym is.0) c.requires.kept in
+    let known = subst (λ (b : Bor (List ℕ)). AreWholesOf b.now c.args.wholes.now) (sym is.0) c.requires.known in
     search rules
 
 pub load_node-returns-in-Bool-clause-tree : goal.load_node-returns-in-Bool-clause-tree
@@ -84,7 +106,7 @@ load_node-returns-in-Bool-clause-tree t c =
     let is = c.in-Bool.ensures in
     let leaf = leaf_tree c.args.node.bytes.now c.args.node.pos (tree.truth c.native_of.result) 0 truth (λ _. ⊤) c.in-Bool.value.pos (omega arith) is.2
     (λ w h. c.native_of.ensures w (subst (λ (b : Bor (List ℕ)). HeldAt truth (λ _. ⊤) b.now c.in-Bool.value.pos w) (sym is.0) h)) in
-    λ v u h d. node_tree-bool [] _ ∙ leaf v u h d
+    λ v u h d. loaded_leaf _ (node_tree-bool (loaded_table c.args.wholes.now) _) (leaf v u h d)
 
 pub load_node-returns-in-Int-clause-tree : goal.load_node-returns-in-Int-clause-tree
 load_node-returns-in-Int-clause-tree t c =
@@ -93,7 +115,7 @@ load_node-returns-in-Int-clause-tree t c =
     let same = to_z-of_z w64 n (record { sfits = c.native_of-in-Int.type_inv }) in
     let leaf = leaf_tree c.args.node.bytes.now c.args.node.pos (tree.number (to_z w64 (of_z w64 n))) 1 (number w64 true) (λ _. ⊤) c.in-Int.number.pos (omega arith) is.2
     (λ w h. ap integer same ∙ c.native_of-in-Int.ensures w (subst (λ (b : Bor (List ℕ)). HeldAt (number w64 true) (λ _. ⊤) b.now c.in-Int.number.pos w) (sym is.0) h)) in
-    λ v u h d. node_tree-int [] _ ∙ leaf v u h d
+    λ v u h d. loaded_leaf _ (node_tree-int (loaded_table c.args.wholes.now) _) (leaf v u h d)
 
 pub load_node-returns-in_ok-text-in-Text-clause-tree : goal.load_node-returns-in_ok-text-in-Text-clause-tree
 load_node-returns-in_ok-text-in-Text-clause-tree t c =
@@ -101,7 +123,7 @@ load_node-returns-in_ok-text-in-Text-clause-tree t c =
     let there = subst (λ (b : Bor (List ℕ)). IsText b.now c.in-Text.text.pos c.as_str.result.now) is.0 c.as_str.ensures in
     let leaf = leaf_tree c.args.node.bytes.now c.args.node.pos (tree.text c.as_str.result.now) 2 text (λ _. ⊤) c.in-Text.text.pos (omega arith) is.2
     (text_is (λ _. ⊤) c.args.node.bytes.now c.in-Text.text.pos c.as_str.result.now there) in
-    λ v u h d. node_tree-text [] _ ∙ ap (λ s. tree.leaf (tree.text s)) c.in_ok-text-in-Text.ensures.ok ∙ leaf v u h d
+    λ v u h d. loaded_leaf _ (node_tree-text (loaded_table c.args.wholes.now) _ ∙ ap (λ s. tree.leaf (tree.text s)) c.in_ok-text-in-Text.ensures.ok) (leaf v u h d)
 
 pub load_node-returns-in_ok-read-in-Shared-clause-tree : goal.load_node-returns-in_ok-read-in-Shared-clause-tree
 load_node-returns-in_ok-read-in-Shared-clause-tree t c =
@@ -110,32 +132,37 @@ load_node-returns-in_ok-read-in-Shared-clause-tree t c =
     let shared = shared_tree c.args.node.bytes.now c.args.node.pos c.in-Shared.pointer.pos got.0 got.1 _ is.2
     (subst (λ (b : Bor (List ℕ)). IsRcStrAt false b.now c.in-Shared.pointer.pos got.0 got.1) is.0 got.2)
     (got.3 ∙ ap (λ (b : Bor (List ℕ)). window b.now got.0 got.1) is.0) in
-    λ v u h d. node_tree-shared [] _ ∙ shared v u h d
+    λ v u h d. loaded_shared _ (node_tree-shared (loaded_table c.args.wholes.now) _) (shared v u h d)
 
 pub load_node-returns-in-Maybe-clause-tree : goal.load_node-returns-in-Maybe-clause-tree
 load_node-returns-in-Maybe-clause-tree t c =
     let is = c.in-Maybe.ensures in
-    passed_on c.args.node.bytes.now c.in-Maybe.maybe.bytes c.load_option.result (ap (λ (b : Bor (List ℕ)). b.now) is.0) is.2 c.load_option.ensures.tree
+    passed_on c.args.node.bytes.now c.in-Maybe.maybe.bytes c.load_option.result (IsLoaded c.args.wholes.now c.load_option.new.wholes) (ap (λ (b : Bor (List ℕ)). b.now) is.0) is.2 c.load_option.ensures.tree
 
 pub load_node-returns-in-List-clause-tree : goal.load_node-returns-in-List-clause-tree
 load_node-returns-in-List-clause-tree t c =
     let is = c.in-List.ensures in
-    passed_on c.args.node.bytes.now c.in-List.list.bytes c.load_list.result (ap (λ (b : Bor (List ℕ)). b.now) is.0) is.2 c.load_list.ensures.tree
+    passed_on c.args.node.bytes.now c.in-List.list.bytes c.load_list.result (IsLoaded c.args.wholes.now c.load_list.new.wholes) (ap (λ (b : Bor (List ℕ)). b.now) is.0) is.2 c.load_list.ensures.tree
 
 pub load_node-returns-in-Ordered-clause-tree : goal.load_node-returns-in-Ordered-clause-tree
 load_node-returns-in-Ordered-clause-tree t c =
     let is = c.in-Ordered.ensures in
-    passed_on c.args.node.bytes.now c.in-Ordered.map.bytes c.load_ordered.result (ap (λ (b : Bor (List ℕ)). b.now) is.0) is.2 c.load_ordered.ensures.tree
+    passed_on c.args.node.bytes.now c.in-Ordered.map.bytes c.load_ordered.result (IsLoaded c.args.wholes.now c.load_ordered.new.wholes) (ap (λ (b : Bor (List ℕ)). b.now) is.0) is.2 c.load_ordered.ensures.tree
 
 pub load_node-returns-in-Hashed-clause-tree : goal.load_node-returns-in-Hashed-clause-tree
 load_node-returns-in-Hashed-clause-tree t c =
     let is = c.in-Hashed.ensures in
-    passed_on c.args.node.bytes.now c.in-Hashed.map.bytes c.load_hashed.result (ap (λ (b : Bor (List ℕ)). b.now) is.0) is.2 c.load_hashed.ensures.tree
+    passed_on c.args.node.bytes.now c.in-Hashed.map.bytes c.load_hashed.result (IsLoaded c.args.wholes.now c.load_hashed.new.wholes) (ap (λ (b : Bor (List ℕ)). b.now) is.0) is.2 c.load_hashed.ensures.tree
 
 pub load_node-returns-in-Kept-clause-tree : goal.load_node-returns-in-Kept-clause-tree
 load_node-returns-in-Kept-clause-tree t c =
     let is = c.in-Kept.ensures in
-    passed_on c.args.node.bytes.now c.in-Kept.map.bytes c.load_kept.result (ap (λ (b : Bor (List ℕ)). b.now) is.0) is.2 c.load_kept.ensures.tree
+    passed_on c.args.node.bytes.now c.in-Kept.map.bytes c.load_kept.result (IsLoaded c.args.wholes.now c.load_kept.new.wholes) (ap (λ (b : Bor (List ℕ)). b.now) is.0) is.2 c.load_kept.ensures.tree
+
+pub load_node-returns-in-Whole-clause-tree : goal.load_node-returns-in-Whole-clause-tree
+load_node-returns-in-Whole-clause-tree t c =
+    let is = c.in-Whole.ensures in
+    passed_on c.args.node.bytes.now c.in-Whole.whole.bytes c.load_whole.result (IsLoaded c.args.wholes.now c.load_whole.new.wholes) (ap (λ (b : Bor (List ℕ)). b.now) is.0) is.2 c.load_whole.ensures.tree
 
 -- ---- options
 
@@ -152,25 +179,45 @@ load_option-load_node-requires t c =
     let bytes = c.get.ensures.bytes ∙ says.0 in
     let there = tree_as bytes refl (boxed_tree c.args.maybe.bytes.now some says.1 boxed c.requires.there) in
     let kept = subst (λ (b : Bor (List ℕ)). AreReadOf b.now c.args.texts.now) (sym bytes) c.requires.kept in
+    let known = subst (λ (b : Bor (List ℕ)). AreWholesOf b.now c.args.wholes.now) (sym bytes) c.requires.known in
     let few = inside_few c.args.maybe.bytes.now (omega arith) c.requires.there in
-    let less : 2 * (64 - (c.args.outer + 1)) + 1 < t = omega (arith, few) in
+    let less : 3 * (64 - (c.args.outer + 1)) + 2 < t = omega (arith, few) in
     search rules
 
 pub load_option-returns-in_ok-new-in-Some-clause-tree : goal.load_option-returns-in_ok-new-in-Some-clause-tree
 load_option-returns-in_ok-new-in-Some-clause-tree t c =
     let says = c.in-Some.ensures in
     let maybe = c.args.maybe in
+    let node = c.in_ok-node-in-Some.node in
+    let table = loaded_table c.load_node.new.wholes in
     let boxed = subst (λ (b : Bor (List ℕ)). IsBoxAt node_shape KnowsNode b.now c.in-Some.boxed.pos c.get.result.pos) says.0 c.get.ensures.value in
-    let loaded = loaded_as (node_tree [] c.in_ok-node-in-Some.node) (c.get.ensures.bytes ∙ says.0) refl c.in_ok-node-in-Some.ensures.tree in
-    let some = just_tree maybe.bytes.now says.2 says.1 boxed (node_tree [] c.in_ok-node-in-Some.node) loaded in
-    λ v u h d. node_tree-some [] _ ∙ ap (λ n. tree.just (node_tree [] n)) c.in_ok-new-in-Some.ensures.ok ∙ some v u h d
+    let loaded = of_same (IsLoaded c.args.wholes.now c.load_node.new.wholes node) (c.get.ensures.bytes ∙ says.0) refl c.in_ok-node-in-Some.ensures.tree in
+    let some = just_tree maybe.bytes.now says.2 says.1 boxed (IsLoaded c.args.wholes.now c.load_node.new.wholes node) loaded in
+    λ v u h d.
+    let one = some v u h d in
+    (node_tree-some table _ ∙ ap (λ n. tree.just (node_tree table n)) c.in_ok-new-in-Some.ensures.ok ∙ ap tree.just one.2.0 ∙ sym one.1, one.2.1 ∙ ap (with_wholes (loaded_table c.args.wholes.now)) (sym one.1))
 
 pub load_option-returns-in-None-clause-tree : goal.load_option-returns-in-None-clause-tree
 load_option-returns-in-None-clause-tree t c =
+    let table = loaded_table c.args.wholes.now in
     let nothing = nothing_tree c.args.maybe.bytes.now c.args.maybe.pos c.in-None.ensures in
-    λ v u h d. node_tree-none [] ∙ nothing v u h d
+    λ v u h d. let is = nothing v u h d in (node_tree-none table ∙ sym is, ap (with_wholes table) (sym is))
 
 -- ---- lists
+
+pub load_list-loop-index-init : goal.load_list-loop-index-init
+load_list-loop-index-init t c =
+    let table = loaded_table c.args.wholes.now in
+    let list = c.args.list in
+    let nodes = c.as_slice-elements.result in
+    record {
+      left =
+          subst (λ ns. OfTree (tagged_value 5) (vector node_shape) KnowsNode list.bytes.now list.pos (ElementsLeft list.bytes.now nodes.pos nodes.len 0 table table ns)) (sym c.in_ok-nodes.ensures.items)
+          (none_loaded list.bytes.now c.as_slice-elements.ensures.elements table);
+      legal = subst (AreNodesLegal table) (sym c.in_ok-nodes.ensures.items) tt;
+      kept = c.requires.kept;
+      known = c.requires.known;
+    }
 
 pub load_list-load_node-requires : goal.load_list-load_node-requires
 load_list-load_node-requires t c =
@@ -179,8 +226,9 @@ load_list-load_node-requires t c =
     let bytes = at.1 ∙ c.as_slice-elements.ensures.bytes in
     let there = tree_as bytes at.2 (element_there list.bytes.now c.as_slice-elements.ensures.elements c.loop-index.index at.0 c.requires.there) in
     let kept = subst (λ (b : Bor (List ℕ)). AreReadOf b.now c.loop-index.texts) (sym bytes) c.loop-index.invariant.kept in
+    let known = subst (λ (b : Bor (List ℕ)). AreWholesOf b.now c.loop-index.wholes) (sym bytes) c.loop-index.invariant.known in
     let few = inside_few list.bytes.now (omega arith) c.requires.there in
-    let less : 2 * (64 - (c.args.outer + 1)) + 1 < t = omega (arith, few) in
+    let less : 3 * (64 - (c.args.outer + 1)) + 2 < t = omega (arith, few) in
     search rules
 
 pub load_list-loop-index-preserved : goal.load_list-loop-index-preserved
@@ -189,150 +237,212 @@ load_list-loop-index-preserved t c =
     let at = some_says _ _ c.get.result c.unwrap-element.result c.get.ensures c.unwrap-element.ensures in
     let bytes = at.1 ∙ c.as_slice-elements.ensures.bytes in
     let node = c.in_ok-load_node.field-0 in
-    let loaded = loaded_as (node_tree [] node) bytes (at.2 ∙ ap (λ n. c.as_slice-elements.result.pos + n * size_of node_shape) (sym c.loop-index.invariant.count)) c.in_ok-load_node.ensures.tree in
-    let count = c.loop-index.invariant.count in
+    let nodes = c.loop-index.nodes.items in
+    let new = c.load_node.new.wholes in
+    let loaded = of_same (IsLoaded c.loop-index.wholes new node) bytes at.2 c.in_ok-load_node.ensures.tree in
+    let there = element_there list.bytes.now c.as_slice-elements.ensures.elements c.loop-index.index at.0 c.requires.there in
+    let one = loaded there.value there.tree there.held there.denotes in
+    let grows = subst (Grows (loaded_table c.loop-index.wholes)) (sym one.1) (grows_wholes (loaded_table c.loop-index.wholes) there.tree) in
     record {
-      loaded =
-          subst (AreTreesAt list.bytes.now c.as_slice-elements.result.pos) (sym c.in_ok-push.ensures.items)
-          (one_more list.bytes.now c.as_slice-elements.result.pos c.loop-index.nodes.items node c.loop-index.invariant.loaded loaded);
-      count = ap length c.in_ok-push.ensures.items ∙ length-append c.loop-index.nodes.items (node ∷ []) ∙ ap (λ n. n + 1) count;
+      left =
+          subst (λ ns. OfTree (tagged_value 5) (vector node_shape) KnowsNode list.bytes.now list.pos (ElementsLeft list.bytes.now c.as_slice-elements.result.pos c.as_slice-elements.result.len (c.loop-index.index + 1) (loaded_table c.args.wholes.now) (loaded_table new) ns)) (sym c.in_ok-push.ensures.items)
+          (λ v u h d. one_loaded list.bytes.now node c.loop-index.invariant.legal at.0 loaded (c.loop-index.invariant.left v u h d));
+      legal = subst (AreNodesLegal (loaded_table new)) (sym c.in_ok-push.ensures.items) (one_legal grows nodes node c.loop-index.invariant.legal (subst IsLegal (sym one.0) there.legal));
       kept = subst (λ (b : Bor (List ℕ)). AreReadOf b.now c.load_node.new.texts) bytes c.in_ok-load_node.ensures.keeps;
+      known = subst (λ (b : Bor (List ℕ)). AreWholesOf b.now new) bytes c.in_ok-load_node.ensures.knows;
     }
 
 pub load_list-returns-clause-tree : goal.load_list-returns-clause-tree
 load_list-returns-clause-tree t c =
-    let whole = c.loop-index.invariant.count ∙ omega (arith, c.loop-index-test.false, c.len-index-end.ensures, c.loop-index.auto.index-end) in
-    let list = list_tree c.args.list.bytes.now c.as_slice-elements.ensures.elements c.loop-index.nodes.items whole c.loop-index.invariant.loaded in
-    λ v u h d. node_tree-list [] _ ∙ list v u h d
+    let most : c.as_slice-elements.result.len ≤ c.loop-index.index = omega (arith, c.loop-index-test.false, c.len-index-end.ensures, c.loop-index.auto.index-end) in
+    λ v u h d.
+    let all = all_loaded c.args.list.bytes.now most (c.loop-index.invariant.left v u h d) in
+    (node_tree-list (loaded_table c.loop-index.wholes) _ ∙ all.0, all.1)
 
--- ---- ordered maps
+-- ---- entries
 
-pub load_ordered-loop-key-init : goal.load_ordered-loop-key-init
-load_ordered-loop-key-init t c =
-    let map = c.args.map in
-    let gives = c.into_iter-key-iterator.ensures.into_iter_gives in
-    let pairs = c.iter-key-items.ensures in
+pub load_entries-loop-entry-init : goal.load_entries-loop-entry-init
+load_entries-loop-entry-init t c =
+    let table = loaded_table c.args.wholes.now in
     record {
-      there = subst (All (IsPairOf map.bytes (c.args.outer + 1))) (sym gives) (ordered_there map.bytes c.requires.there _ pairs);
-      left =
-          subst (λ left. OfTree (tagged_value 6) map_shape knows_pairs map.bytes.now map.pos (AreLeft map.bytes ordered left (node_pairs [] c.new-pairs.result.entries))) (sym gives)
-          (subst (λ es. OfTree (tagged_value 6) map_shape knows_pairs map.bytes.now map.pos (AreLeft map.bytes ordered c.iter-key-items.result (node_pairs [] es))) (sym c.new-pairs.ensures.empty) (ordered_left map.bytes c.requires.there _ pairs));
+      left = pairs.none_loaded c.args.bytes.now table c.in_ok-pairs.pairs.items c.args.entries.now c.in_ok-pairs.ensures.items;
+      legal = subst (λ is. AreNodesLegal table (nodes_of is)) (sym c.in_ok-pairs.ensures.items) tt;
       kept = c.requires.kept;
+      known = c.requires.known;
     }
 
-pub load_ordered-load_node-requires : goal.load_ordered-load_node-requires
-load_ordered-load_node-requires t c =
-    let map = c.args.map in
-    let pair = first_pair map.bytes c.in-Some.ensures.steps c.loop-key.invariant.there in
-    let there = first_node map.bytes c.in-Some.ensures.steps c.loop-key.invariant.there in
-    let kept = subst (λ (b : Bor (List ℕ)). AreReadOf b.now c.loop-key.texts) (sym pair.node_bytes) c.loop-key.invariant.kept in
-    let few = inside_few map.bytes.now (omega arith) c.requires.there in
-    let less : 2 * (64 - (c.args.outer + 1)) + 1 < t = omega (arith, few) in
+pub load_entries-load_node-requires : goal.load_entries-load_node-requires
+load_entries-load_node-requires t c =
+    let bytes = c.new.ensures.bytes in
+    let there = tree_as bytes c.new.ensures.pos (c.requires.there c.loop-entry.entry-index _ c.loop-entry-test.true).1 in
+    let kept = subst (λ (b : Bor (List ℕ)). AreReadOf b.now c.loop-entry.texts) (sym bytes) c.loop-entry.invariant.kept in
+    let known = subst (λ (b : Bor (List ℕ)). AreWholesOf b.now c.loop-entry.wholes) (sym bytes) c.loop-entry.invariant.known in
+    let less : 3 * (64 - c.args.outer) + 2 < t = omega arith in
     search rules
 
-pub load_ordered-add_pair-requires : goal.load_ordered-add_pair-requires
-load_ordered-add_pair-requires t c = first_key c.args.map.bytes c.in-Some.ensures.steps c.loop-key.invariant.there
+pub load_entries-as_str-requires : goal.load_entries-as_str-requires
+load_entries-as_str-requires t c =
+    let new = c.new-in-loop-entry in
+    let key = (c.requires.there c.loop-entry.entry-index _ c.loop-entry-test.true).0 in
+    subst (λ (b : Bor (List ℕ)). HasText b.now new.result.pos) (sym new.ensures.bytes) (subst (HasText c.args.bytes.now) (sym new.ensures.pos) (text_has (λ _. ⊤) c.args.bytes.now _ key))
 
-pub load_ordered-loop-key-preserved : goal.load_ordered-loop-key-preserved
-load_ordered-loop-key-preserved t c =
-    let bytes = c.args.map.bytes in
-    let steps = c.in-Some.ensures.steps in
-    let there = c.loop-key.invariant.there in
-    let pair = first_pair bytes steps there in
-    let added = c.in_ok-add_pair.ensures in
+pub load_entries-loop-entry-preserved : goal.load_entries-loop-entry-preserved
+load_entries-loop-entry-preserved t c =
+    let bytes = c.args.bytes.now in
+    let i = c.loop-entry.entry-index in
+    let old = loaded_table c.loop-entry.wholes in
+    let new = c.load_node.new.wholes in
+    let node = c.in_ok-node.node in
+    let key = c.in_ok-key.key in
+    let items = c.loop-entry.pairs.items in
+    let there = (c.requires.there i _ c.loop-entry-test.true).1 in
+    let loaded = of_same (IsLoaded c.loop-entry.wholes new node) c.new.ensures.bytes c.new.ensures.pos c.in_ok-node.ensures.tree in
+    let one = loaded there.value there.tree there.held there.denotes in
+    let grows = subst (Grows old) (sym one.1) (grows_wholes old there.tree) in
+    let at = c.new-in-loop-entry in
+    let text = subst (λ n. IsText bytes n c.as_str.result.now) at.ensures.pos (subst (λ (b : Bor (List ℕ)). IsText b.now at.result.pos c.as_str.result.now) at.ensures.bytes c.as_str.ensures) in
     record {
-      there = later_pairs bytes steps there;
-      left = λ v u h d. left_on bytes steps there (c.loop-key.invariant.left v u h d) added.0 (node_tree [] c.in_ok-node.node) added.1 c.in_ok-node.ensures.tree added.2;
-      kept = subst (λ (b : Bor (List ℕ)). AreReadOf b.now c.load_node.new.texts) pair.node_bytes c.in_ok-node.ensures.keeps;
+      left = λ ps lead.
+          subst (λ is. pairs.PairsLeft bytes (loaded_table c.args.wholes.now) (loaded_table new) is (drop (i + 1) c.args.entries.now) ps) (sym c.in_ok-push.ensures.items)
+          (pairs.one_loaded bytes key node c.loop-entry.invariant.legal (λ k h. c.in_ok-key.ensures.ok ∙ same_string (text_is (λ _. ⊤) bytes _ c.as_str.result.now text (string k) h)) loaded
+          (subst (λ es. pairs.PairsLeft bytes (loaded_table c.args.wholes.now) old items es ps) (drop_here c.args.entries.now i _ c.loop-entry-test.true) (c.loop-entry.invariant.left ps lead)));
+      legal =
+          subst (λ is. AreNodesLegal (loaded_table new) (nodes_of is)) (sym c.in_ok-push.ensures.items)
+          (subst (AreNodesLegal (loaded_table new)) (sym (pairs.nodes_more bytes items key node)) (one_legal grows (nodes_of items) node c.loop-entry.invariant.legal (subst IsLegal (sym one.0) there.legal)));
+      kept = subst (λ (b : Bor (List ℕ)). AreReadOf b.now c.load_node.new.texts) c.new.ensures.bytes c.in_ok-node.ensures.keeps;
+      known = subst (λ (b : Bor (List ℕ)). AreWholesOf b.now new) c.new.ensures.bytes c.in_ok-node.ensures.knows;
     }
+
+pub load_entries-returns-clause-pairs : goal.load_entries-returns-clause-pairs
+load_entries-returns-clause-pairs t c = λ ps lead.
+    pairs.all_loaded c.args.bytes.now (drop_all c.loop-entry.entry-index c.args.entries.now (omega (arith, c.loop-entry-test.false, c.loop-entry.auto.entry-index-end))) (c.loop-entry.invariant.left ps lead)
+
+-- ---- maps
+
+pub load_ordered-ordered_entries-requires : goal.load_ordered-ordered_entries-requires
+load_ordered-ordered_entries-requires t c = (c.args.outer, c.requires.there)
+
+pub load_ordered-load_entries-requires : goal.load_ordered-load_entries-requires
+load_ordered-load_entries-requires t c =
+    let few = inside_few c.args.map.bytes.now (omega arith) c.requires.there in
+    let entries = c.in_ok-entries.ensures c.args.outer c.requires.there in
+    let there = subst (All (IsEntry c.bytes.result.now (c.args.outer + 1))) (sym c.as_slice.ensures.value) (subst (λ (b : Bor (List ℕ)). All (IsEntry b.now (c.args.outer + 1)) c.in_ok-entries.entries.items) (sym c.bytes.ensures) entries.0) in
+    let kept = subst (λ (b : Bor (List ℕ)). AreReadOf b.now c.args.texts.now) (sym c.bytes.ensures) c.requires.kept in
+    let known = subst (λ (b : Bor (List ℕ)). AreWholesOf b.now c.args.wholes.now) (sym c.bytes.ensures) c.requires.known in
+    let low : c.args.outer + 1 ≤ 64 = omega (arith, few) in
+    let less : 3 * (64 - (c.args.outer + 1)) + 3 < t = omega (arith, few) in
+    search rules
+
+pub load_hashed-hashed_entries-requires : goal.load_hashed-hashed_entries-requires
+load_hashed-hashed_entries-requires t c = (c.args.outer, c.requires.there)
+
+pub load_hashed-load_entries-requires : goal.load_hashed-load_entries-requires
+load_hashed-load_entries-requires t c =
+    let few = inside_few c.args.map.bytes.now (omega arith) c.requires.there in
+    let entries = c.in_ok-entries.ensures c.args.outer c.requires.there in
+    let there = subst (All (IsEntry c.bytes.result.now (c.args.outer + 1))) (sym c.as_slice.ensures.value) (subst (λ (b : Bor (List ℕ)). All (IsEntry b.now (c.args.outer + 1)) c.in_ok-entries.entries.items) (sym c.bytes.ensures) entries.0) in
+    let kept = subst (λ (b : Bor (List ℕ)). AreReadOf b.now c.args.texts.now) (sym c.bytes.ensures) c.requires.kept in
+    let known = subst (λ (b : Bor (List ℕ)). AreWholesOf b.now c.args.wholes.now) (sym c.bytes.ensures) c.requires.known in
+    let low : c.args.outer + 1 ≤ 64 = omega (arith, few) in
+    let less : 3 * (64 - (c.args.outer + 1)) + 3 < t = omega (arith, few) in
+    search rules
+
+pub load_kept-kept_entries-requires : goal.load_kept-kept_entries-requires
+load_kept-kept_entries-requires t c = (c.args.outer, c.requires.there)
+
+pub load_kept-load_entries-requires : goal.load_kept-load_entries-requires
+load_kept-load_entries-requires t c =
+    let few = inside_few c.args.map.bytes.now (omega arith) c.requires.there in
+    let entries = c.in_ok-entries.ensures c.args.outer c.requires.there in
+    let there = subst (All (IsEntry c.bytes.result.now (c.args.outer + 1))) (sym c.as_slice.ensures.value) (subst (λ (b : Bor (List ℕ)). All (IsEntry b.now (c.args.outer + 1)) c.in_ok-entries.entries.items) (sym c.bytes.ensures) entries.0) in
+    let kept = subst (λ (b : Bor (List ℕ)). AreReadOf b.now c.args.texts.now) (sym c.bytes.ensures) c.requires.kept in
+    let known = subst (λ (b : Bor (List ℕ)). AreWholesOf b.now c.args.wholes.now) (sym c.bytes.ensures) c.requires.known in
+    let low : c.args.outer + 1 ≤ 64 = omega (arith, few) in
+    let less : 3 * (64 - (c.args.outer + 1)) + 3 < t = omega (arith, few) in
+    search rules
 
 pub load_ordered-returns-clause-tree : goal.load_ordered-returns-clause-tree
-load_ordered-returns-clause-tree t c = λ v u h d. node_tree-ordered [] _ ∙ left_none c.args.map.bytes c.in-None.ensures.steps.0 (c.loop-key.invariant.left v u h d)
-
--- ---- hashed maps
-
-pub load_hashed-loop-key-init : goal.load_hashed-loop-key-init
-load_hashed-loop-key-init t c =
-    let map = c.args.map in
-    let gives = c.into_iter-key-iterator.ensures.into_iter_gives in
-    let pairs = c.iter-key-items.ensures.entries in
-    record {
-      there = subst (All (IsPairOf map.bytes (c.args.outer + 1))) (sym gives) (hashed_there map.bytes c.requires.there _ pairs);
-      left =
-          subst (λ left. OfTree (tagged_value 7) table_shape knows_pairs map.bytes.now map.pos (AreLeft map.bytes hashed left (node_pairs [] c.new-pairs.result.entries))) (sym gives)
-          (subst (λ es. OfTree (tagged_value 7) table_shape knows_pairs map.bytes.now map.pos (AreLeft map.bytes hashed c.iter-key-items.result (node_pairs [] es))) (sym c.new-pairs.ensures.empty) (hashed_left map.bytes c.requires.there _ pairs));
-      kept = c.requires.kept;
-    }
-
-pub load_hashed-load_node-requires : goal.load_hashed-load_node-requires
-load_hashed-load_node-requires t c =
-    let map = c.args.map in
-    let pair = first_pair map.bytes c.in-Some.ensures.steps c.loop-key.invariant.there in
-    let there = first_node map.bytes c.in-Some.ensures.steps c.loop-key.invariant.there in
-    let kept = subst (λ (b : Bor (List ℕ)). AreReadOf b.now c.loop-key.texts) (sym pair.node_bytes) c.loop-key.invariant.kept in
-    let few = inside_few map.bytes.now (omega arith) c.requires.there in
-    let less : 2 * (64 - (c.args.outer + 1)) + 1 < t = omega (arith, few) in
-    search rules
-
-pub load_hashed-add_pair-requires : goal.load_hashed-add_pair-requires
-load_hashed-add_pair-requires t c = first_key c.args.map.bytes c.in-Some.ensures.steps c.loop-key.invariant.there
-
-pub load_hashed-loop-key-preserved : goal.load_hashed-loop-key-preserved
-load_hashed-loop-key-preserved t c =
-    let bytes = c.args.map.bytes in
-    let steps = c.in-Some.ensures.steps in
-    let there = c.loop-key.invariant.there in
-    let pair = first_pair bytes steps there in
-    let added = c.in_ok-add_pair.ensures in
-    record {
-      there = later_pairs bytes steps there;
-      left = λ v u h d. left_on bytes steps there (c.loop-key.invariant.left v u h d) added.0 (node_tree [] c.in_ok-node.node) added.1 c.in_ok-node.ensures.tree added.2;
-      kept = subst (λ (b : Bor (List ℕ)). AreReadOf b.now c.load_node.new.texts) pair.node_bytes c.in_ok-node.ensures.keeps;
-    }
+load_ordered-returns-clause-tree t c =
+    let bytes = c.args.map.bytes.now in
+    let old = c.args.wholes.now in
+    let new = c.load_entries.new.wholes in
+    let loaded : (ps : Pairs) → LeadTo bytes c.in_ok-entries.entries.items ps → ArePairsLoaded old new c.in_ok-pairs.pairs.items ps =
+    λ ps lead. c.in_ok-pairs.ensures.pairs ps (subst (λ es. LeadTo c.bytes.result.now es ps) (sym c.as_slice.ensures.value) (subst (λ (b : Bor (List ℕ)). LeadTo b.now c.in_ok-entries.entries.items ps) (sym c.bytes.ensures) lead)) in
+    let all = pairs.sorted_map bytes c.in_ok-entries.entries.items c.in_ok-entries.ensures c.requires.there old new c.in_ok-pairs.pairs.items loaded ordered_is c.in_ok-into_map.field-0.entries (c.in_ok-into_map.ensures (loaded_table new)) in
+    λ v u h d. let one = all v u h d in (node_tree-ordered (loaded_table new) _ ∙ one.0, one.1)
 
 pub load_hashed-returns-clause-tree : goal.load_hashed-returns-clause-tree
-load_hashed-returns-clause-tree t c = λ v u h d. node_tree-hashed [] _ ∙ left_none c.args.map.bytes c.in-None.ensures.steps.0 (c.loop-key.invariant.left v u h d)
-
--- ---- kept maps
-
-pub load_kept-loop-key-init : goal.load_kept-loop-key-init
-load_kept-loop-key-init t c =
-    let map = c.args.map in
-    let gives = c.into_iter-key-iterator.ensures.into_iter_gives in
-    let pairs = c.iter-key-items.ensures.entries in
-    record {
-      there = subst (All (IsPairOf map.bytes (c.args.outer + 1))) (sym gives) (kept_there map.bytes c.requires.there _ pairs);
-      left =
-          subst (λ left. OfTree (tagged_value 8) index_shape knows_pairs map.bytes.now map.pos (AreLeft map.bytes kept left (node_pairs [] c.in_ok-pairs.pairs.items))) (sym gives)
-          (subst (λ es. OfTree (tagged_value 8) index_shape knows_pairs map.bytes.now map.pos (AreLeft map.bytes kept c.iter-key-items.result (node_pairs [] es))) (sym c.in_ok-pairs.ensures.items) (kept_left map.bytes c.requires.there _ pairs));
-      kept = c.requires.kept;
-    }
-
-pub load_kept-load_node-requires : goal.load_kept-load_node-requires
-load_kept-load_node-requires t c =
-    let map = c.args.map in
-    let pair = first_pair map.bytes c.in-Some.ensures.steps c.loop-key.invariant.there in
-    let there = first_node map.bytes c.in-Some.ensures.steps c.loop-key.invariant.there in
-    let kept = subst (λ (b : Bor (List ℕ)). AreReadOf b.now c.loop-key.texts) (sym pair.node_bytes) c.loop-key.invariant.kept in
-    let few = inside_few map.bytes.now (omega arith) c.requires.there in
-    let less : 2 * (64 - (c.args.outer + 1)) + 1 < t = omega (arith, few) in
-    search rules
-
-pub load_kept-push_pair-requires : goal.load_kept-push_pair-requires
-load_kept-push_pair-requires t c = first_key c.args.map.bytes c.in-Some.ensures.steps c.loop-key.invariant.there
-
-pub load_kept-loop-key-preserved : goal.load_kept-loop-key-preserved
-load_kept-loop-key-preserved t c =
-    let bytes = c.args.map.bytes in
-    let steps = c.in-Some.ensures.steps in
-    let there = c.loop-key.invariant.there in
-    let pair = first_pair bytes steps there in
-    let appended = c.in_ok-push_pair.ensures in
-    record {
-      there = later_pairs bytes steps there;
-      left = λ v u h d. left_on bytes steps there (c.loop-key.invariant.left v u h d) appended.0 (node_tree [] c.in_ok-node.node) appended.1 c.in_ok-node.ensures.tree appended.2;
-      kept = subst (λ (b : Bor (List ℕ)). AreReadOf b.now c.load_node.new.texts) pair.node_bytes c.in_ok-node.ensures.keeps;
-    }
+load_hashed-returns-clause-tree t c =
+    let bytes = c.args.map.bytes.now in
+    let old = c.args.wholes.now in
+    let new = c.load_entries.new.wholes in
+    let loaded : (ps : Pairs) → LeadTo bytes c.in_ok-entries.entries.items ps → ArePairsLoaded old new c.in_ok-pairs.pairs.items ps =
+    λ ps lead. c.in_ok-pairs.ensures.pairs ps (subst (λ es. LeadTo c.bytes.result.now es ps) (sym c.as_slice.ensures.value) (subst (λ (b : Bor (List ℕ)). LeadTo b.now c.in_ok-entries.entries.items ps) (sym c.bytes.ensures) lead)) in
+    let all = pairs.sorted_map bytes c.in_ok-entries.entries.items c.in_ok-entries.ensures c.requires.there old new c.in_ok-pairs.pairs.items loaded hashed_is c.in_ok-into_map.field-0.entries (c.in_ok-into_map.ensures (loaded_table new)) in
+    λ v u h d. let one = all v u h d in (node_tree-hashed (loaded_table new) _ ∙ one.0, one.1)
 
 pub load_kept-returns-clause-tree : goal.load_kept-returns-clause-tree
-load_kept-returns-clause-tree t c = λ v u h d. node_tree-kept [] _ ∙ left_none c.args.map.bytes c.in-None.ensures.steps.0 (c.loop-key.invariant.left v u h d)
+load_kept-returns-clause-tree t c =
+    let bytes = c.args.map.bytes.now in
+    let old = c.args.wholes.now in
+    let new = c.load_entries.new.wholes in
+    let loaded : (ps : Pairs) → LeadTo bytes c.in_ok-entries.entries.items ps → ArePairsLoaded old new c.in_ok-pairs.pairs.items ps =
+    λ ps lead. c.in_ok-pairs.ensures.pairs ps (subst (λ es. LeadTo c.bytes.result.now es ps) (sym c.as_slice.ensures.value) (subst (λ (b : Bor (List ℕ)). LeadTo b.now c.in_ok-entries.entries.items ps) (sym c.bytes.ensures) lead)) in
+    let all = pairs.pairs_map bytes c.in_ok-entries.entries.items c.in_ok-entries.ensures c.requires.there old new c.in_ok-pairs.pairs.items loaded in
+    λ v u h d. let one = all v u h d in (node_tree-kept (loaded_table new) _ ∙ one.0, one.1)
+
+-- ---- wholes
+
+pub load_whole-number_of-requires : goal.load_whole-number_of-requires
+load_whole-number_of-requires t c = subst (λ (b : Bor (List ℕ)). AreWholesOf b.now c.args.wholes.now) (sym c.get-node.ensures.bytes) c.requires.known
+
+pub load_whole-returns-in-Some-clause-tree : goal.load_whole-returns-in-Some-clause-tree
+load_whole-returns-in-Some-clause-tree t c =
+    let whole = c.args.whole in
+    let table = loaded_table c.args.wholes.now in
+    let numbered_in = of_same (λ u. numbered table c.in-Some.number ≡ Some u) c.get-node.ensures.bytes refl c.in-Some.ensures in
+    λ v u h d.
+    let one = whole_tree whole.bytes.now c.get-node.ensures.value (λ u. numbered table c.in-Some.number ≡ Some u) numbered_in v u h d in
+    (whole_numbered table c.in-Some.number one.0 u one.2 one.1, whole_again table c.requires.known.table c.in-Some.number one.0 u one.2 one.1)
+
+pub load_whole-load_node-requires : goal.load_whole-load_node-requires
+load_whole-load_node-requires t c =
+    let whole = c.args.whole in
+    let bytes = c.get-node.ensures.bytes in
+    let there = tree_as bytes refl (inner_tree whole.bytes.now c.get-node.ensures.value c.requires.there) in
+    let kept = subst (λ (b : Bor (List ℕ)). AreReadOf b.now c.args.texts.now) (sym bytes) c.requires.kept in
+    let known = subst (λ (b : Bor (List ℕ)). AreWholesOf b.now c.args.wholes.now) (sym bytes) c.requires.known in
+    let few = inside_few whole.bytes.now (omega arith) c.requires.there in
+    let less : 3 * (64 - (c.args.outer + 1)) + 2 < t = omega (arith, few) in
+    search rules
+
+pub load_whole-share-requires : goal.load_whole-share-requires
+load_whole-share-requires t c =
+    let whole = c.args.whole in
+    let there = tree_as c.get-node.ensures.bytes refl (inner_tree whole.bytes.now c.get-node.ensures.value c.requires.there) in
+    let one = c.in_ok-inner.ensures.tree there.value there.tree there.held there.denotes in
+    let low = there.low in
+    record { legal = subst IsLegal (sym one.0) there.legal; low = subst (λ u. tree.depth u < 64) (sym one.0) (omega (arith, low)) }
+
+pub load_whole-keep-requires : goal.load_whole-keep-requires
+load_whole-keep-requires t c = record {
+  known = c.in_ok-number.ensures.knows c.get-node.result.bytes.now c.in_ok-inner.ensures.knows;
+  read = λ v u h d. c.in_ok-number.ensures.number c.get-node.result.bytes.now c.in_ok-inner.ensures.knows ∙ ap Some (c.in_ok-inner.ensures.tree v u h d).0;
+}
+
+pub load_whole-returns-clause-tree : goal.load_whole-returns-clause-tree
+load_whole-returns-clause-tree t c =
+    let old = c.args.wholes.now in
+    let bytes = c.get-node.result.bytes.now in
+    let inner = c.load_node.new.wholes in
+    let node = c.in_ok-inner.inner in
+    let number = c.in_ok-number.number in
+    let new = loaded_table c.keep.new.self in
+    let knows = c.in_ok-inner.ensures.knows in
+    let loaded = of_same (IsLoaded old inner node) c.get-node.ensures.bytes refl c.in_ok-inner.ensures.tree in
+    λ v u h d.
+    let one = whole_tree c.args.whole.bytes.now c.get-node.ensures.value (IsLoaded old inner node) loaded v u h d in
+    let at = ap (λ ts. numbered ts number) c.keep.ensures.table ∙ c.in_ok-number.ensures.number bytes knows ∙ ap Some one.2.0 in (
+      whole_numbered new number one.0 u at one.1,
+      c.keep.ensures.table ∙ c.in_ok-number.ensures.table bytes knows ∙ ap₂ with_tree one.2.1 one.2.0 ∙ ap (with_wholes (loaded_table old)) (sym one.1),
+    )

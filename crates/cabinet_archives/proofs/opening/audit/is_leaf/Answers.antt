@@ -26,5 +26,7 @@ returns-in-Maybe c =
     (λ k. container_is node.bytes.now node.pos c.requires (omega arith) (kind_is {l = kind.Ordered k.0} node.bytes node.pos k.1 c.kind.ensures).2)
     (⊎_elim
     (λ k. container_is node.bytes.now node.pos c.requires (omega arith) (kind_is {l = kind.Hashed k.0} node.bytes node.pos k.1 c.kind.ensures).2)
-    (λ k. container_is node.bytes.now node.pos c.requires (omega arith) (kind_is {l = kind.Kept k.0} node.bytes node.pos k.1 c.kind.ensures).2))))
+    (⊎_elim
+    (λ k. container_is node.bytes.now node.pos c.requires (omega arith) (kind_is {l = kind.Kept k.0} node.bytes node.pos k.1 c.kind.ensures).2)
+    (λ k. container_is node.bytes.now node.pos c.requires (omega arith) (kind_is {l = kind.Whole k.0} node.bytes node.pos k.1 c.kind.ensures).2)))))
     c.in-Maybe.is

@@ -8,7 +8,6 @@ returns-in-Err g c =
     let m : WriterMembers g.row.W.Denot = record { known = g.W.Registry.known; pos = g.W.Positional.pos; OBSERVABLE = g.W.Writer.OBSERVABLE; COUNTS = g.W.Writer.COUNTS; contents = g.W.Writer.contents; failures = g.W.Writer.failures; last_error = g.W.Writer.last_error } in
     record {
       saved = tt;
-      none = tt;
       quiet = tt;
       refused = unsaved m c.args.document.now c.args.writer.now c.in-Err.refusal c.in-Err.ensures.refused;
       cut = λ image is_image tells. nothing_cut (g.W.Writer.contents c.args.writer.now) image;
@@ -33,7 +32,6 @@ returns-clause-refused g c =
     let new = c.write.new.self in
     let uncounted : g.W.Writer.COUNTS ≡ false = sym c.counts.ensures ∙ c.if-counts.false in
     let quiet = subst (λ b. IsCounted b (g.W.Writer.failures old) (g.W.Writer.failures new) c.in-Err-2.field-0) uncounted failed.is_counted in (
-      c.in-Ok.ensures.none,
       inr uncounted,
       quiet.0,
       λ image is_image tells.
