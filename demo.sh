@@ -1,5 +1,6 @@
 #!/usr/bin/env bash
-# Demonstrates cab: first before any proof, and then proved and built, on each of examples/.
+# Demonstrates cab: first before any proof, and then proved and built, on each document of
+# examples/ that has lines.
 set -euo pipefail
 cd "$(dirname "$0")"
 root=$PWD
@@ -64,7 +65,7 @@ if ! (cd crates/cab && rt run -- build "$root/examples/first/text" "$folder/prov
 fi
 grep '^logic=proved' "$folder/log" | tail -n 1 | cut -d ' ' -f 1-2 || echo 'proved before, and nothing has changed since'
 
-for name in first list settings catalogue publisher cache; do
+for name in first list settings catalogue publisher cache json; do
     built proved_cab "$name"
     answered proved_cab "$name"
 done

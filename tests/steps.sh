@@ -1,7 +1,13 @@
 # The steps of a case. Sourced by the scripts whose cases run cab and cab_show: with the paths of these programs, or else
-# those of crates/cab and crates/cab_show, which are proved and built first.
+# those of crates/cab and crates/cab_show, which are proved and built first. A script whose cases need another command
+# sets `needs` to its name before; where that is not installed, the script ends here.
 set -u
 root=$(cd "$(dirname "${BASH_SOURCE[0]}")/.." && pwd)
+if [ "${needs:-}" ] && ! command -v "$needs" > /dev/null; then
+    echo "skipped: $needs is not installed here"
+    echo '0 passed, 0 failed'
+    exit 0
+fi
 work=$(mktemp -d)
 # a file system that a case mounted, and left when the script was stopped
 trap 'umount "$work/files/full" 2> /dev/null; rm -rf "$work"' EXIT
