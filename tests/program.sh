@@ -2391,7 +2391,8 @@ for words in '' 'a.cab more' 'show a.cab'; do
     finish
 done
 
-for example in "$root"/examples/*/; do
+for lines in "$root"/examples/*/lines; do
+    example=$(dirname "$lines")
     begin "the example $(basename "$example")"
     run build "$example/text" a.cab
     ends 0 ''
