@@ -1,6 +1,7 @@
 #!/usr/bin/env bash
 # Proves every crate and runs every test: the count of crates and of paths through crates.txt, the toolchain's merge
-# gate, and the programs on files, also where calls are refused. The last line reports how many processor minutes that took.
+# gate, the programs on files, also where calls are refused, and what examples/ has for JSON and for many archives. The last
+# line reports how many processor minutes that took.
 set -u
 cd "$(dirname "$0")" || exit 1
 log=$(mktemp)
@@ -32,6 +33,18 @@ echo '== the programs on files'
 # the merge gate has left the programs that it proved and built
 if ! tests/program.sh "$PWD/crates/cab/out/cab" "$PWD/crates/cab_show/out/cab_show"; then
     say 'a program failed'
+    exit 1
+fi
+
+echo '== the filters to and from JSON'
+if ! tests/json.sh "$PWD/crates/cab/out/cab" "$PWD/crates/cab_show/out/cab_show"; then
+    say 'a filter failed'
+    exit 1
+fi
+
+echo '== many archives in a database'
+if ! tests/many.sh "$PWD/crates/cab/out/cab" "$PWD/crates/cab_show/out/cab_show"; then
+    say 'the archives in a database failed'
     exit 1
 fi
 
