@@ -245,9 +245,9 @@ to_this_text
 to_this_json
 finish
 
-begin 'a text of 300,000 escapes takes seconds'
-{ printf '"' && yes ' b\\c\n' | head -n 100000 | tr -d '\n' && echo '"'; } > json
-{ printf "text '" && yes '\sb\\c\n' | head -n 100000 | tr -d '\n' && echo; } > text
+begin 'a text of 600,000 escapes takes seconds'
+{ printf '"' && yes ' b\\c\n' | head -n 200000 | tr -d '\n' && echo '"'; } > json
+{ printf "text '" && yes '\sb\\c\n' | head -n 200000 | tr -d '\n' && echo; } > text
 to_this_text
 to_this_json
 finish

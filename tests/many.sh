@@ -16,7 +16,7 @@ shards() {
     ended=$?
 }
 
-# stored FIRST HEX ..: the rows of the database, by their first keys, with nothing for one that has none
+# stored FIRST HEX ..: the rows of the database, each by its first key and its archive
 stored() {
     local rows
     rows=$(sqlite3 many.db "SELECT first, lower(hex(archive)) FROM shards ORDER BY first;")
