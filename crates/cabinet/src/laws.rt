@@ -2,12 +2,6 @@
 ghost use Rattle.cabinet.specs.Laws.{AcceptedAfterEachLine, ImageAfterEachLine, LoadedIsSaved, SavedAgainIsSame, UneditedBytesStay};
 
 pub use crate::refusals::accepted_is_not_refused;
-pub use cabinet_documents::{
-    accepted_stands, audit_decides, edit_keeps_accepted, edit_keeps_image, edits_in_either_order,
-    leaf_put, leaves_stand, node_spells, one_audit_fault, one_document, one_image, one_value,
-    one_walk, own_bytes_apart, refused_is_not_accepted, value_denotes, walk_stands,
-    written_is_image,
-};
 
 /// After each line of a session its bytes are the archive of the document after that line.
 pub fn accepted_after_each_line()

@@ -1,5 +1,5 @@
 -- Pairs that are added to others, one after the other, in whatever order they come.
-use Rattle.std.proofs.Common.{◌≡◌, ◌≢◌, ℕ, Global, String, string_bytes, cond, List, [], ◌∷◌, ◌++◌, refl, sym, ap, subst, ◌∙◌}
+use Rattle.std.proofs.Common.{◌≡◌, ◌≢◌, ℕ, Global, String, string_bytes, cond, List, [], ◌∷◌, refl, sym, ap, subst, ◌∙◌}
 use Rattle.std.specs.Prelude.{⊤}
 use Rattle.std.specs.BTreeMap.{insert_entry}
 use Rattle.std.specs.String.{string_cmp}

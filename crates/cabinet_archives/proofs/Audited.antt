@@ -1,5 +1,5 @@
 -- The root of bytes that access accepts is audited, and the audit decides whether the bytes are an archive.
-use Rattle.std.proofs.Common.{◌≡◌, ◌≢◌, ℕ, ◌+◌, ◌<◌, ◌≤◌, ◌^◌, ◌⊎◌, inl, inr, List, [], length, Result, Ok, Err, refl, sym, subst, ◌∙◌, ap}
+use Rattle.std.proofs.Common.{◌≡◌, ◌≢◌, ℕ, ◌<◌, ◌^◌, inl, inr, List, [], length, Result, Ok, Err, refl, sym, subst, ◌∙◌, ap}
 use Rattle.std.specs.Prelude.{OnOk, IfErr}
 use Rattle.archive_shape.specs.ShapeLayout.Content.Part.{at}
 use Rattle.archive_shape.specs.ShapeLayout.Holds.{root_position}
@@ -18,14 +18,13 @@ use Rattle.archive_core_validation.proofs.Rooted.{decided as decides, decided_ha
 use Rattle.cabinet_text_nodes.specs.TextGrammar.Tree.{Tree}
 use Rattle.cabinet_archived.specs.Documents.Node.{node_shape, node_names, KnowsNode}
 use Rattle.cabinet_archived.specs.Documents.Accepted.{Accepted}
-use Rattle.cabinet_archived.specs.Documents.Audit.{faults, first_of, IsRefusedFor}
+use Rattle.cabinet_archived.specs.Documents.Audit.{first_of, IsRefusedFor}
 use Rattle.cabinet_archived.specs.Documents.Laws.{AuditDecided}
 use Rattle.cabinet_archived.proofs.Documents.Deciding.{audit_decides_law}
 use Rattle.cabinet_archived.proofs.Documents.NodeWalks.{BehindWalk, behind_walk}
-use Rattle.cabinet_archives.specs.Sound.{Reports, HasHeight, AuditsTo}
+use Rattle.cabinet_archives.specs.Sound.{AuditsTo}
 use Rattle.cabinet_archives.specs.Refused.{refusal_of, IsRefusalFor, for_memory, for_access}
 use Rattle.cabinet_archives.specs.declared.opening.refusal.OpenRefusal.{OpenRefusal}
-use Rattle.cabinet_archives.specs.declared.opening.refusal.OpenRefusal.TheVariants as refusal
 
 -- ---- the access
 

@@ -12,7 +12,6 @@ use Rattle.archive_hash_walking.specs.Maps.{value_at}
 use Rattle.archive_hash_walking.proofs.Roots.{places_of_value}
 use Rattle.cabinet_archived.specs.Documents.Audit.{Unsound, hashed_faults}
 use Rattle.cabinet_archived.specs.Documents.Node.{node_names, node_shape, pair_shape}
-use Rattle.cabinet_archived.specs.Documents.Audit.{faults}
 use Rattle.cabinet_archived.specs.Documents.Table.{hashed_at, table_of}
 use Rattle.cabinet_archived.specs.Documents.Walk.{Stop, Walks}
 use Rattle.cabinet_archived.specs.declared.node.ArchivedNode.{ArchivedNode}

@@ -1,5 +1,5 @@
 -- How high parts are, from how high the parts in them are.
-use Rattle.std.proofs.Common.{◌≡◌, ◌∙◌, ℕ, ◌+◌, ◌<◌, ◌≤◌, max, Bool, Bor, true, false, nat_lt, List, [], ◌∷◌, ◌++◌, Some, IfSome, Result, Ok, Err, cond, inl, inr, refl, sym, ap, ap₂, subst, arith, lt-ltb, le-ltb}
+use Rattle.std.proofs.Common.{◌≡◌, ◌∙◌, ℕ, ◌+◌, ◌<◌, ◌≤◌, max, Bool, Bor, true, false, nat_lt, List, [], ◌∷◌, ◌++◌, Some, IfSome, Result, Err, cond, inl, inr, refl, sym, ap, ap₂, subst, arith, lt-ltb, le-ltb}
 use Rattle.std.proofs.lemmas.Bool.Decides.{leb_tells}
 use Rattle.std.specs.BTreeMap.{BTreeMap, get, is_at, Updates}
 use Rattle.std.specs.Ordering.{is_eq, is_lt, is_le, nat_cmp, ord_max}
@@ -18,7 +18,7 @@ use Rattle.cabinet_archived.specs.Documents.Audit as audit
 use Rattle.cabinet_archived.specs.Documents.Audit.{too_deep, unless, faults, first_of}
 use Rattle.cabinet_archives.specs.declared.opening.refusal.OpenRefusal.{OpenRefusal}
 use Rattle.cabinet_archives.specs.declared.opening.refusal.OpenRefusal.TheVariants as refusal
-use Rattle.cabinet_archives.specs.Sound.{Reports, Audits, HasHeight, AreHeights, AuditsTo}
+use Rattle.cabinet_archives.specs.Sound.{Audits, HasHeight, AreHeights, AuditsTo}
 use Rattle.cabinet_archives.proofs.Walked.{Inner}
 
 pub first_stays : (u : audit.Unsound) (xs ys : List audit.Unsound) → first_of xs ≡ Some u → first_of (xs ++ ys) ≡ Some u

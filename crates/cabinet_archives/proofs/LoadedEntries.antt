@@ -13,17 +13,16 @@ use Rattle.archive_shape.specs.ShapeLayout.Shape.Shape.{text}
 use Rattle.archive_shape.specs.ShapeLayout.Value.{Value, Values}
 use Rattle.archive_shape.specs.ShapeLayout.Value.Value.{string}
 use Rattle.archive_shape.specs.ShapeLayout.Value.Values.{no_values, more_values}
-use Rattle.archive_shape.specs.ShapeLayout.Content.{Names, members}
+use Rattle.archive_shape.specs.ShapeLayout.Content.{members}
 use Rattle.archive_shape.specs.Key.{HeldAt}
 use Rattle.archive_shape.specs.declared.references.refs.Ref.{Ref}
-use Rattle.archive_forms_values.specs.Parts.{HasValue}
 use Rattle.archive_forms_values.specs.declared.text.string.ArchivedString.{ArchivedString}
 use Rattle.archive_btree_walking.specs.BtreeLayout.Reading.{Place}
 use Rattle.archive_btree_walking.specs.Maps.{AreEntriesAt}
 use Rattle.archive_btree_walking.specs.Refs.{entry_at}
 use Rattle.cabinet_text_nodes.specs.TextGrammar.Keys.{MapKind, ordered, hashed, kept}
 use Rattle.cabinet_text_nodes.specs.TextGrammar.Tree as tree
-use Rattle.cabinet_text_nodes.specs.TextGrammar.Tree.{Tree, Pairs, no_pairs, more_pairs, IsLegal, ArePairs, pairs_depth, depth as height}
+use Rattle.cabinet_text_nodes.specs.TextGrammar.Tree.{Tree, Pairs, no_pairs, more_pairs, IsLegal, pairs_depth, depth as height}
 use Rattle.cabinet_archived.specs.Documents.Denotes.{Denotes, DenotePairs, pair_value, tagged_value}
 use Rattle.cabinet_archived.specs.Documents.Denotes.DenotePairs.{denote_no_pairs, denote_pair}
 use Rattle.cabinet_archived.specs.Documents.Node.{node_shape, KnowsNode}

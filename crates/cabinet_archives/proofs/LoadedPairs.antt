@@ -1,5 +1,5 @@
 -- The pairs of a map that are loaded one after the other, and those that are left.
-use Rattle.std.proofs.Common.{◌≡◌, ◌∙◌, ℕ, ◌+◌, Global, String, string_bytes, List, [], ◌∷◌, ◌++◌, map, refl, sym, ap, subst, append_assoc, append-nil}
+use Rattle.std.proofs.Common.{◌≡◌, ◌∙◌, ℕ, Global, String, string_bytes, List, [], ◌∷◌, ◌++◌, refl, sym, ap, subst, append-nil}
 use Rattle.std.specs.Prelude.{⊤}
 use Rattle.archive_shape.specs.ShapeLayout.Shape.{Shape}
 use Rattle.archive_shape.specs.ShapeLayout.Shape.Shape.{text}
@@ -15,7 +15,7 @@ use Rattle.cabinet_text_nodes.specs.declared.node.Node.{Node}
 use Rattle.cabinet_archived.proofs.Documents.ByKey.{pair_keys}
 use Rattle.cabinet_archives.specs.Found.{OfDocument}
 use Rattle.cabinet_archives.specs.Keyed.{knows_pairs}
-use Rattle.cabinet_archives.specs.Loading.{HasTree, OfTree, LeadTo, AreEntriesOf, ArePairsLoaded, IsLoaded, loaded_table, all_added}
+use Rattle.cabinet_archives.specs.Loading.{HasTree, OfTree, LeadTo, AreEntriesOf, ArePairsLoaded, loaded_table, all_added}
 use Rattle.cabinet_archives.specs.declared.loading.wholes.LoadedWholes.{LoadedWholes}
 use Rattle.cabinet_archives.proofs.Added.{IsSorted, added_same}
 use Rattle.cabinet_archives.proofs.LoadedTrees.{Loaded, AreNodesLegal, IsProgress, progress_on, progress_done, trees_by, keys_of, nodes_of, pairs_from, wholes_by_trees}

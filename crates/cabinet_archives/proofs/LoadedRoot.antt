@@ -1,5 +1,5 @@
 -- The tree of the root of accepted bytes.
-use Rattle.std.proofs.Common.{◌≡◌, ℕ, ◌<◌, ◌≤◌, ◌^◌, Bor, List, [], ◌∷◌, length, true, false, refl, ap, subst, sym, ◌∙◌, arith}
+use Rattle.std.proofs.Common.{◌≡◌, ℕ, ◌<◌, ◌^◌, Bor, List, [], ◌∷◌, length, true, false, refl, ap, subst, sym, ◌∙◌, arith}
 use Rattle.std.proofs.Math.Bool.{Bool-set}
 use Rattle.std.proofs.Math.Logic.{∥∥₁_elim, ∥∥₁_map}
 use Rattle.archive_shape.specs.ShapeLayout.Value.{Value}

@@ -1,9 +1,8 @@
 -- Trees of nodes that are loaded one after the other, while the table of wholes grows.
-use Rattle.std.proofs.Common.{◌≡◌, ◌∙◌, ℕ, Global, String, string_bytes, List, [], ◌∷◌, ◌++◌, map, Some, refl, sym, ap, ap₂, subst, append-nil, append_assoc}
+use Rattle.std.proofs.Common.{◌≡◌, ◌∙◌, ℕ, Global, String, string_bytes, List, [], ◌∷◌, ◌++◌, map, Some, refl, sym, ap, ap₂, subst, append-nil}
 use Rattle.std.specs.Prelude.{⊤}
-use Rattle.cabinet_text_nodes.specs.Order.{IsEnd}
 use Rattle.cabinet_text_nodes.specs.TextGrammar.Tree as tree
-use Rattle.cabinet_text_nodes.specs.TextGrammar.Tree.{Tree, Trees, no_trees, more_trees, Pairs, no_pairs, more_pairs, IsLegal}
+use Rattle.cabinet_text_nodes.specs.TextGrammar.Tree.{Tree, Pairs, no_pairs, more_pairs, IsLegal}
 use Rattle.cabinet_text_nodes.specs.TextGrammar.Wholes.{numbered, with_wholes, with_wholes_in, with_wholes_by, IsTable}
 use Rattle.cabinet_text_nodes.specs.View.{node_tree, node_pairs, trees_of, whole_of}
 use Rattle.cabinet_text_nodes.specs.declared.node.Node.{Node}

@@ -21,7 +21,7 @@ use Rattle.cabinet_archives.specs.Found.{OfDocument, ReachesNone}
 use Rattle.cabinet_archives.specs.Hashed.{table_shape}
 use Rattle.cabinet_archives.specs.Kept.{index_shape}
 use Rattle.cabinet_archives.specs.Ordered.{map_shape}
-use Rattle.cabinet_archives.proofs.Entering.{enters_whole, enters_no_whole}
+use Rattle.cabinet_archives.proofs.Entering.{enters_no_whole}
 use Rattle.cabinet_archives.proofs.Stepping.{IsNotInside, IsNoPlace, IsNoKey}
 use Rattle.cabinet_archives.proofs.Tags.{tag_is}
 use Rattle.cabinet_archives.proofs.Ways.{Boxed, other_none}

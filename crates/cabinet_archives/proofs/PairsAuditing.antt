@@ -1,5 +1,5 @@
 -- What an audit finds of a map of pairs, from what it finds of the map's table and of the nodes in it.
-use Rattle.std.proofs.Common.{◌≡◌, ◌∙◌, ℕ, ◌+◌, ◌<◌, ◌≤◌, nat_lt, Bor, List, [], ◌∷◌, ◌++◌, map, Result, Ok, Err, refl, sym, ap, subst, arith, lt-ltb}
+use Rattle.std.proofs.Common.{◌≡◌, ◌∙◌, ℕ, ◌+◌, ◌≤◌, Bor, List, [], ◌∷◌, ◌++◌, map, Result, Ok, Err, refl, sym, ap, subst, arith, lt-ltb}
 use Rattle.std.specs.Prelude.{⊤, All}
 use Rattle.std.specs.List.{flat_map}
 use Rattle.archive_shape.specs.ShapeLayout.Shape.{Shape}
@@ -15,7 +15,6 @@ use Rattle.cabinet_archived.specs.Documents.Node.{node_names, node_shape, KnowsN
 use Rattle.cabinet_archived.specs.Documents.Audit.{Unsound, too_deep, unless, faults}
 use Rattle.cabinet_archived.specs.Documents.Walk.{Stop, Walks}
 use Rattle.cabinet_archived.specs.declared.node.ArchivedNode.{ArchivedNode}
-use Rattle.cabinet_archived.proofs.Documents.TreeWalks.{ItemsWalk}
 use Rattle.cabinet_archives.specs.declared.opening.refusal.OpenRefusal.{OpenRefusal}
 use Rattle.cabinet_archives.specs.Sound.{Audits, Reports}
 use Rattle.cabinet_archives.proofs.Auditing.{reports_as, refused_first, not_deep, HasOwn, IsNodeOf, IsLeft, nodes_there}

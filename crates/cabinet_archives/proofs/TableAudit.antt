@@ -1,7 +1,6 @@
 -- The faults of a hashed map's table that are left, place by place.
-use Rattle.std.proofs.Common.{[], ◌≡◌, ℕ, ◌*◌, ◌^◌, ◌<◌, ◌≤◌, ◌==◌, Bool, Bor, false, true, List, ◌∷◌, ◌++◌, map, slice_index, Option, MatchOption, Result, Ok, Err, sym, ap, subst, ◌∙◌, arith, zero-mul, suc, Some, refl, eq-eqb}
-use Rattle.std.specs.List.{flat_map, slice_get}
-use Rattle.std.proofs.lemmas.Bool.{ne_eqb}
+use Rattle.std.proofs.Common.{[], ◌≡◌, ℕ, ◌*◌, ◌^◌, ◌<◌, ◌≤◌, ◌==◌, Bool, Bor, false, true, List, ◌∷◌, ◌++◌, map, slice_index, Option, MatchOption, Result, Ok, Err, sym, ap, subst, ◌∙◌, arith, zero-mul}
+use Rattle.std.specs.List.{flat_map}
 use Rattle.archive_shape.specs.ShapeLayout.Shape.{Shape, size_of}
 use Rattle.archive_shape.specs.ShapeLayout.Content.Part.{at}
 use Rattle.archive_shape.specs.ShapeLayout.Value.{Value}

@@ -1,5 +1,5 @@
 -- The trees that are loaded, and the texts and the wholes that are kept meanwhile.
-use Rattle.std.specs.Prelude.{◌≡◌, ⊤, ℕ, ◌+◌, ◌≤◌, List, [], ◌∷◌, All, String, Vec, IfSome, Some}
+use Rattle.std.specs.Prelude.{◌≡◌, ⊤, ℕ, ◌+◌, ◌≤◌, List, [], ◌∷◌, All, String, Vec, Option, IfSome, Some}
 use Rattle.std.specs.BTreeMap.{BTreeMap, get}
 use Rattle.std.specs.Ordering.{match_ordering, nat_cmp, ordering_then}
 use Rattle.std.specs.Cmp.Lexicographic.{slice_cmp}
@@ -72,6 +72,10 @@ text_cmp a b = slice_cmp nat_cmp a.items b.items
 pub record AreNumbersOf (table : List Tree) (numbers : BTreeMap (Vec ℕ Global) ℕ) : Type 0 where
   pub found : (n : ℕ) (t : Tree) → numbered table n ≡ Some t → (key : Vec ℕ Global) → key.items ≡ text_in table t → get text_cmp numbers key ≡ Some n
   pub told : (key : Vec ℕ Global) → IfSome (get text_cmp numbers key) (λ n. (t : Tree) × (numbered table n ≡ Some t) × (key.items ≡ text_in table t))
+
+-- the number that is kept under a position
+abbrev pub read_at : LoadedWholes → ℕ → Option ℕ
+read_at wholes pos = get nat_cmp wholes.read pos
 
 -- the nodes at these positions have the trees with these numbers
 abbrev pub AreRead : List ℕ → List Tree → BTreeMap ℕ ℕ → Type 0

@@ -1,11 +1,11 @@
 //! The wholes of an archive that is loaded.
-ghost use Rattle.std.specs.Prelude.{◌≡◌, ◌<◌, ℕ, List, [], IfOk, IfSome, Some};
+ghost use Rattle.std.specs.Prelude.{◌≡◌, ◌<◌, ℕ, List, [], IfOk, Some};
 ghost use Rattle.cabinet_archived.specs.Documents.Node.{node_shape, KnowsNode};
 ghost use Rattle.cabinet_text_nodes.specs.TextGrammar.Tree.{IsLegal, depth};
 ghost use Rattle.cabinet_text_nodes.specs.TextGrammar.Wholes.{numbered, with_tree};
 ghost use Rattle.cabinet_text_nodes.specs.View.{node_tree, table_of};
 ghost use Rattle.cabinet_archives.specs.Found.{OfDocument};
-ghost use Rattle.cabinet_archives.specs.Loading.{AreWholesOf, loaded_table};
+ghost use Rattle.cabinet_archives.specs.Loading.{AreWholesOf, loaded_table, read_at};
 
 use archive_shape::Ref;
 use cabinet_archived::ArchivedNode;
@@ -38,9 +38,7 @@ impl LoadedWholes {
 
     /// Returns the number of the whole that was read from a node, if it was read.
     pub(crate) fn number_of(&self, node: Ref<'_, ArchivedNode>) -> Option<u64>
-        requires { AreWholesOf node.bytes.now self.now }
-        ensures { IfSome result (λ n. OfDocument node.entry.bytes.now node.entry.pos
-            (λ t. numbered (loaded_table self.now) n ≡ Some t)) }
+        ensures { result ≡ read_at self.now node.entry.pos }
     {
         self.read.get(&node.pos()).copied()
     }
@@ -54,6 +52,7 @@ impl LoadedWholes {
         requires known { AreWholesOf node.bytes.now self.old }
         requires read { OfDocument node.bytes.now node.pos (λ t. numbered (loaded_table self.old) number ≡ Some t) }
         ensures table { loaded_table self.new ≡ loaded_table self.old }
+        ensures kept { IfOk result (λ _. read_at self.new node.entry.pos ≡ Some number) }
         ensures knows { IfOk result (λ _. AreWholesOf node.entry.bytes.now self.new) }
     {
         self.read.insert(node.pos(), number)?;
@@ -81,6 +80,7 @@ impl LoadedWholes {
         self.nodes.push(node)?;
         Ok(number)
     }
+
     /// Returns the nodes of the wholes, by their numbers.
     pub(crate) fn into_nodes(self) -> Vec<Node>
         ensures { table_of result.items ≡ loaded_table self }

@@ -1,4 +1,4 @@
-use Rattle.std.proofs.Common.{◌≡◌, ◌++◌, ◌∷◌, [], map, sym, ap, ap₂, ◌∙◌, append-nil, append_assoc}
+use Rattle.std.proofs.Common.{◌++◌, map, sym, ap, ◌∙◌, append-nil}
 use Rattle.cabinet_archives.proofs.LoadedEntries.{positions, pushed}
 use Rattle.cabinet_archives.proofs.LoadedMaps.{ordered_are}
 use Rattle.cabinet_archives.proofs.loading.entries.ordered_entries.Goals as goal

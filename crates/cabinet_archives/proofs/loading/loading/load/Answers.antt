@@ -1,4 +1,4 @@
-use Rattle.std.proofs.Common.{◌≡◌, ◌∙◌, ap, sym, arith}
+use Rattle.std.proofs.Common.{◌≡◌, ◌∙◌, ap, arith}
 use Rattle.cabinet_text_nodes.specs.TextGrammar.Wholes.{with_wholes, wholes_of}
 use Rattle.cabinet_text_nodes.specs.View.{node_tree}
 use Rattle.cabinet_archives.specs.Found.{OfDocument}

@@ -1,5 +1,5 @@
-use Rattle.std.proofs.Common.{◌≡◌, get_or, drop, drop-cons, add-one, ℕ, [], ◌∷◌, length, length-append, ◌+◌, ◌-◌, ◌*◌, ◌<◌, ◌≤◌, List, Some, Bor, to_z, of_z, refl, sym, ap, ap₂, subst, ◌∙◌, arith, rules}
-use Rattle.std.specs.Prelude.{All, true, false, ⊤}
+use Rattle.std.proofs.Common.{◌≡◌, get_or, drop, drop-cons, add-one, ℕ, ◌∷◌, length, ◌+◌, ◌-◌, ◌*◌, ◌<◌, ◌≤◌, List, Some, Bor, to_z, of_z, refl, sym, ap, ap₂, subst, ◌∙◌, arith, rules}
+use Rattle.std.specs.Prelude.{All, IfSome, true, false, ⊤}
 use Rattle.std.specs.Int.{w64}
 use Rattle.std.proofs.lemmas.Int.{to_z-of_z}
 use Rattle.std.proofs.lemmas.List.{drop_all}
@@ -18,15 +18,14 @@ use Rattle.cabinet_text_nodes.specs.TextGrammar.Wholes.{numbered, with_tree, wit
 use Rattle.cabinet_archived.specs.Documents.Denotes.{tagged_value}
 use Rattle.cabinet_archived.specs.Documents.Node.{node_shape, whole_shape, KnowsNode}
 use Rattle.cabinet_archived.proofs.Shared.{counted_there}
+use Rattle.cabinet_archives.specs.Found.{OfDocument}
 use Rattle.cabinet_archives.specs.Hashed.{table_shape}
 use Rattle.cabinet_archives.specs.Kept.{index_shape}
 use Rattle.cabinet_archives.specs.Keyed.{knows_pairs}
 use Rattle.cabinet_archives.specs.Loading.{AreReadOf, AreWholesOf, HasTree, OfTree, IsEntry, IsLoaded, ArePairsLoaded, LeadTo, loaded_table}
 use Rattle.cabinet_archives.specs.Ordered.{map_shape}
-use Rattle.cabinet_text_nodes.specs.TextGrammar.Keys.{ordered, hashed, kept}
-use Rattle.cabinet_text_nodes.specs.View.{node_tree, node_pairs}
-use Rattle.cabinet_text_nodes.proofs.Views.{node_tree-bool, node_tree-int, node_tree-text, node_tree-shared, node_tree-none, node_tree-some, node_tree-list, node_tree-ordered, node_tree-hashed, node_tree-kept, node_tree-whole}
-use Rattle.archive_shape.specs.ShapeLayout.Shape.{size_of}
+use Rattle.cabinet_text_nodes.specs.View.{node_tree}
+use Rattle.cabinet_text_nodes.proofs.Views.{node_tree-bool, node_tree-int, node_tree-text, node_tree-shared, node_tree-none, node_tree-some, node_tree-list, node_tree-ordered, node_tree-hashed, node_tree-kept}
 use Rattle.cabinet_archives.proofs.Added.{ordered_is, hashed_is}
 use Rattle.cabinet_archives.proofs.Loaded.{ElementsLeft, inside_few, boxed_there, payload_tree, passed_on, loaded_leaf, loaded_shared, boxed_tree, just_tree, nothing_tree, inner_tree, whole_tree, element_there, none_loaded, one_loaded, all_loaded}
 use Rattle.cabinet_archives.proofs.LoadedEntries.{same_string}
@@ -393,14 +392,13 @@ load_kept-returns-clause-tree t c =
 
 -- ---- wholes
 
-pub load_whole-number_of-requires : goal.load_whole-number_of-requires
-load_whole-number_of-requires t c = subst (λ (b : Bor (List ℕ)). AreWholesOf b.now c.args.wholes.now) (sym c.get-node.ensures.bytes) c.requires.known
-
 pub load_whole-returns-in-Some-clause-tree : goal.load_whole-returns-in-Some-clause-tree
 load_whole-returns-in-Some-clause-tree t c =
     let whole = c.args.whole in
     let table = loaded_table c.args.wholes.now in
-    let numbered_in = of_same (λ u. numbered table c.in-Some.number ≡ Some u) c.get-node.ensures.bytes refl c.in-Some.ensures in
+    let numbered_in =
+    subst (λ o. IfSome o (λ n. OfDocument whole.bytes.now c.get-node.result.pos (λ u. numbered table n ≡ Some u))) (sym c.in-Some.ensures)
+    (c.requires.known.read c.get-node.result.pos) in
     λ v u h d.
     let one = whole_tree whole.bytes.now c.get-node.ensures.value (λ u. numbered table c.in-Some.number ≡ Some u) numbered_in v u h d in
     (whole_numbered table c.in-Some.number one.0 u one.2 one.1, whole_again table c.requires.known.table c.in-Some.number one.0 u one.2 one.1)

@@ -1,4 +1,4 @@
-use Rattle.std.proofs.Common.{◌≡◌, ◌+◌, ◌*◌, ◌-◌, drop, length}
+use Rattle.std.proofs.Common.{◌+◌, ◌*◌, ◌-◌, drop}
 use Rattle.cabinet_text_nodes.specs.TextGrammar.Tree.{Pairs}
 use Rattle.cabinet_archived.specs.Documents.Denotes.{tagged_value}
 use Rattle.cabinet_archived.specs.Documents.Node.{node_shape, KnowsNode}

@@ -1,6 +1,5 @@
-use Rattle.std.proofs.Common.{◌≡◌, max, ℕ, ◌+◌, ◌-◌, ◌*◌, ◌<◌, List, Bor, Ok, Err, inl, inr, refl, sym, subst, ◌∙◌, arith, rules}
+use Rattle.std.proofs.Common.{◌≡◌, max, ℕ, ◌+◌, ◌-◌, ◌*◌, ◌<◌, List, Bor, Err, inr, refl, sym, subst, ◌∙◌, arith, rules}
 use Rattle.std.specs.Prelude.{All}
-use Rattle.std.proofs.lemmas.List.Elements.{All-head, All-tail}
 use Rattle.std.proofs.lemmas.Result.{err_from_is_err_and}
 use Rattle.archive_shape.specs.ShapeLayout.Shape.Shape.{option, vector}
 use Rattle.archive_forms_values.specs.Parts.{PointsTo}
@@ -13,8 +12,8 @@ use Rattle.cabinet_archives.specs.Ordered.{map_shape}
 use Rattle.cabinet_archives.specs.Sound.{HasHeight}
 use Rattle.cabinet_archives.proofs.Tags.{tag_is}
 use Rattle.cabinet_archives.proofs.Walked.{Boxed, payload_in}
-use Rattle.cabinet_archives.proofs.Heights.{height_as, refuses_as, heights_as, kept_height, height_kept, max_is}
-use Rattle.cabinet_archives.proofs.Auditing.{own_reported, deep_option, deep_list, deep_whole, around_found, boxed_there, behind_tag, value_as, element_there, elements_of, leaf_height, none_height, some_height, some_refused, whole_height, whole_refused, refused_on, found_in, AreHighBefore, node_part, none_before, high_on, refused_at, list_height, list_refused, IsNodeOf, IsLeft, all_there, all_left, own_of_map, descending, left_on, left_refused, left_height}
+use Rattle.cabinet_archives.proofs.Heights.{height_as, refuses_as, heights_as, kept_height, max_is}
+use Rattle.cabinet_archives.proofs.Auditing.{own_reported, deep_option, deep_list, deep_whole, around_found, boxed_there, behind_tag, value_as, element_there, elements_of, leaf_height, none_height, some_height, some_refused, whole_height, whole_refused, refused_on, found_in, AreHighBefore, node_part, none_before, high_on, refused_at, list_height, list_refused, IsNodeOf, IsLeft, all_there, all_left, own_of_map, descending, left_height}
 use Rattle.cabinet_archives.proofs.HashedAuditing.{own_of as own_of_table, unsound, all_nodes, all_left as table_left}
 use Rattle.cabinet_archives.proofs.KeptAuditing.{own_of as own_of_index, unsound as unsound_kept, all_nodes as kept_nodes, all_left as kept_left}
 use Rattle.cabinet_archives.proofs.MapsAuditing.{first_node, heights_first, node_passed, leaf_passed, node_refused}

@@ -1,4 +1,4 @@
-use Rattle.std.proofs.Common.{◌≡◌, ℕ, true, false, Ok, Err, refl, sym, ap, ◌∙◌}
+use Rattle.std.proofs.Common.{ℕ, true, false, Ok, Err, refl, sym, ap, ◌∙◌}
 use Rattle.std.specs.Prelude.{Vec, vec_len}
 use Rattle.std.specs.Global.{Global}
 use Rattle.archive_shape_writing.specs.Writing.{WriterMembers}
