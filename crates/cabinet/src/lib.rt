@@ -12,7 +12,9 @@ mod working;
 
 pub use archive_hash_probing::{Group, Group1, Group8, Group16, Scan};
 pub use archive_shape::Steps;
-pub use cabinet_archives::{OpenRefusal, SaveRefusal, check, check_scanned, load, save, to_bytes};
+pub use cabinet_archives::{
+    ArchivedNode, OpenRefusal, SaveRefusal, check, check_scanned, load, save, to_bytes,
+};
 pub use cabinet_text_grammar::Cause;
 pub use cabinet_text_nodes::{
     Asked, Document, DocumentRefusal, Kind, Leaf, LeafRef, Line, LineRefusal, Node, SetAnswer,

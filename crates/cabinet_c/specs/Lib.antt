@@ -1,0 +1,4 @@
+pub mod Buffers
+pub mod Calls
+pub mod Codes
+pub mod Laws
