@@ -1,7 +1,7 @@
 #!/usr/bin/env bash
 # Proves every crate and runs every test: the count of crates and of paths through crates.txt, the toolchain's merge
-# gate, the programs on files, also where calls are refused, and what examples/ has for JSON and for many archives. The last
-# line reports how many processor minutes that took.
+# gate, the programs on files, also where calls are refused, what examples/ has for JSON and for many archives, and the calls
+# from C and Python. The last line reports how many processor minutes that took.
 set -u
 cd "$(dirname "$0")" || exit 1
 log=$(mktemp)
@@ -52,6 +52,16 @@ echo '== the programs with refused calls'
 if ! tests/refused.sh "$PWD/crates/cab/out/cab" "$PWD/crates/cab_show/out/cab_show" "$PWD/crates/cabinet_refused/out/cabinet_refused" \
     "$PWD/crates/archive_example/out/archive_example"; then
     say 'a refused call was not told'
+    exit 1
+fi
+
+echo '== the calls from C and Python'
+# The merge gate leaves no static library. `rt lib` builds it over the libraries that `rt check` has left here; where there
+# are none it would prove each of them once more.
+if [ ! -f crates/cabinet/out/rlib/stamp ]; then
+    echo 'skipped: rt check has left no libraries here; tests/bindings.sh proves them and runs the calls'
+elif ! tests/bindings.sh; then
+    say 'a call from C failed'
     exit 1
 fi
 

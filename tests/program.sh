@@ -2391,6 +2391,12 @@ for words in '' 'a.cab more' 'show a.cab'; do
     finish
 done
 
+# ---- cab_show --map
+
+. "$root/tests/maps.sh"
+
+# ---- the examples
+
 for lines in "$root"/examples/*/lines; do
     example=$(dirname "$lines")
     begin "the example $(basename "$example")"

@@ -105,7 +105,7 @@ told_run() {
     [ "$is_old" ] && is_left state.0 || is_left "state.${state_of[lines]}"
 }
 
-# The fault of showing the archive.
+# The fault of showing the archive, as its text or as a map.
 told_show() {
     case $fault in
         $'cab: cannot read a.cab\n' | $'cab: open: OutOfMemory\n') [ -z "$printed" ] || differs "call $at prints $printed" ;;
@@ -140,12 +140,13 @@ each() {
     done
 }
 
-# Each call of a kind refused in the build of a row, in the run of its lines, and where it is shown.
+# Each call of a kind refused in the build of a row, in the run of its lines, and where it is shown and mapped. The map is
+# compared with that of a run in which no call is refused.
 refused() {
     local n
     all=$((${#answers[@]} - 1))
     kind=$1 prefix=$2
-    for program in build run show; do
+    for program in build run show map; do
         begin "$row: each $kind${prefix:+ after $prefix bytes} of $program is refused"
         text "$document\n"
         for n in "${!states[@]}"; do
@@ -172,6 +173,13 @@ refused() {
                 printf -v shown "$document\n"
                 each told_show state.0 "$show" a.cab
                 prints "$document\n"
+                cmp -s a.cab state.0 || differs 'the archive was written'
+                ;;
+            map)
+                "$show" --map state.0 > wanted
+                IFS= read -r -d '' shown < wanted
+                each told_show state.0 "$show" --map a.cab
+                cmp -s output wanted || differs 'the map is another'
                 cmp -s a.cab state.0 || differs 'the archive was written'
                 ;;
         esac

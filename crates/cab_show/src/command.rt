@@ -1,18 +1,57 @@
 //! The words of the program.
-ghost use Rattle.std.specs.Prelude.{◌≡◌, ℕ, List, [], ◌∷◌, String, map, string_bytes, IfSome, IfNone};
+ghost use Rattle.std.specs.Prelude.{◌≡◌, ℕ, ◌^◌, ◌<◌, codes, map, string_bytes, IfSome, IfNone, MatchOption};
+ghost use Rattle.std.specs.Fmt.{decimal};
 ghost use Rattle.std.specs.Vec.Iter.{into_iter_items};
+ghost use Rattle.cab_show.specs.Words.{IsCommand, words_of};
+ghost use Rattle.cab_show.specs.declared.command.Command.{Command};
 
+use cabinet_text_bytes::read_count;
 use std::env::Args;
 
-/// Returns the path that is the only word. The words do not include the program's name.
-pub fn parse(mut words: Args) -> Option<String>
-    ensures only { IfSome result (λ archive. map string_bytes (into_iter_items words) ≡ string_bytes archive ∷ []) }
-    ensures other { IfNone result ((archive : List ℕ)
-        → map string_bytes (into_iter_items words) ≡ archive ∷ [] → ⊥) }
+/// A command of the program.
+#[derive(Debug, Drop)]
+pub enum Command {
+    /// `cab_show ARCHIVE`
+    Text { archive: String },
+    /// `cab_show --map ARCHIVE`
+    Map { archive: String },
+    /// `cab_show --map --lines N ARCHIVE`
+    MapLines { lines: u64, archive: String },
+}
+
+/// Returns the number of lines that two words spell, if they do.
+fn read_lines(word: &str, number: &str) -> Option<u64>
+    ensures { MatchOption result
+        ((n : ℕ) → n < 2 ^ 64 → word.now ≡ codes "--lines" → number.now ≡ decimal n → ⊥)
+        (λ n. (word.now ≡ codes "--lines") × (number.now ≡ decimal n)) }
 {
-    let archive = words.next()?;
-    match words.next() {
-        None => Some(archive),
-        Some(_) => None,
+    match word {
+        "--lines" => read_count(number.as_bytes()),
+        _ => None,
+    }
+}
+
+/// Returns the command that words spell, if they spell one. The words do not include the program's name.
+pub fn parse(mut words: Args) -> Option<Command>
+    ensures spelled { IfSome result (λ command. map string_bytes (into_iter_items words) ≡ words_of command) }
+    ensures other { IfNone result ((command : Command) → IsCommand command
+        → map string_bytes (into_iter_items words) ≡ words_of command → ⊥) }
+{
+    let first = words.next()?;
+    let Some(second) = words.next() else {
+        return Some(Command::Text { archive: first });
+    };
+    let third = words.next();
+    let fourth = words.next();
+    let fifth = words.next();
+    match (first.as_str(), third, fourth, fifth) {
+        ("--map", None, None, None) => Some(Command::Map { archive: second }),
+        ("--map", Some(number), Some(archive), None) => {
+            match read_lines(second.as_str(), number.as_str()) {
+                Some(lines) => Some(Command::MapLines { lines, archive }),
+                None => None,
+            }
+        }
+        _ => None,
     }
 }

@@ -1,25 +1,41 @@
-//! The program: `cab_show ARCHIVE` prints the text of the document that an archive file holds.
+//! The program: `cab_show ARCHIVE` prints the text of the document that an archive file holds, and `cab_show --map ARCHIVE`
+//! a map of the file.
 #![tactic(auto)]
 
 mod command;
+mod mapping;
 mod reporting;
 mod showing;
 
 use cab_files::{Fault, OutputStream, exit_code, words};
-use command::parse;
+use command::{Command, parse};
 use reporting::report;
-use showing::show_archive;
+use showing::{map_archive, show_archive};
+use std::env::FillError;
 use std::fs::File;
 use std::process::ExitCode;
 use std::rt::{Env, Files};
 
-/// The place of the path of the archive among the words.
-const PATH: usize = 1;
+/// The places of the path of the archive among the words: it is the last one of each command.
+const PATHS: [usize; 3] = [4, 2, 1];
+
+/// Returns the place of the path of the archive.
+fn place_of_path<R: Env>(rt: &R) -> usize {
+    for place in PATHS {
+        match rt.arg(place, &mut []) {
+            Err(FillError::NotPresent) => {}
+            _ => return place,
+        }
+    }
+    1
+}
 
 /// Carries out the command that the words spell.
 fn carry_out<R: Env + Files<File = File> + Print + AllocGlobal>(rt: &R) -> Result<(), Fault> {
-    match parse(words(rt, PATH)?) {
-        Some(archive) => show_archive(rt, archive),
+    match parse(words(rt, place_of_path(rt))?) {
+        Some(Command::Text { archive }) => show_archive(rt, archive),
+        Some(Command::Map { archive }) => map_archive(rt, archive, None),
+        Some(Command::MapLines { lines, archive }) => map_archive(rt, archive, Some(lines)),
         None => Err(Fault::Usage),
     }
 }

@@ -12,7 +12,9 @@ pub fn report<W: Writer>(fault: &Fault, writer: &mut W) -> Result<(), Error>
     ensures { Writes W.Writer writer.old writer.new (spelled_report fault.now) result }
 {
     match fault {
-        Fault::Usage => writer.write(b"cab_show: usage: cab_show ARCHIVE\n"),
+        Fault::Usage => writer.write(
+            b"cab_show: usage: cab_show ARCHIVE | cab_show --map [--lines N] ARCHIVE\n",
+        ),
         fault => fault_line(fault, writer),
     }
 }
