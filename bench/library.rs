@@ -1,10 +1,10 @@
-//! The functions that forms.rs, core.rs, btree.rs and hash.rs share: the processor times of two calls, a comparison of
-//! functions that write, and lengths of texts.
+//! The functions that forms.rs, core.rs, btree.rs, hash.rs and peers.rs share: the processor times of calls, a comparison
+//! of functions that write, and lengths of texts.
 
 use crate::measured::{least, mixed, report};
 use std::hint::black_box;
 
-const ROUNDS: usize = 41;
+pub const ROUNDS: usize = 41;
 pub const WRITES: usize = 8;
 
 #[repr(C)]
@@ -33,7 +33,8 @@ pub fn least_times(mut ours: impl FnMut(), mut rust: impl FnMut()) -> (f64, f64)
     least(ROUNDS, || nanoseconds(&mut ours), || nanoseconds(&mut rust))
 }
 
-fn nanoseconds(call: &mut impl FnMut()) -> f64 {
+/// Returns the processor time that a call took, in nanoseconds.
+pub fn nanoseconds(call: &mut impl FnMut()) -> f64 {
     let began = processor_time();
     call();
     processor_time() - began

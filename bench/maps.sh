@@ -9,6 +9,7 @@
 # of cab or cab_show to the one before it, with its goal in brackets.
 set -eu
 source "$(dirname "$0")/programs.sh"
+source "$(dirname "$0")/documents.sh"
 find_cab ${1:+"$1"} ${3:+"$3"}
 show=$root/crates/cab_show/out/cab_show
 if [ $# -gt 1 ]; then
@@ -28,33 +29,17 @@ mkdir {cab,plain,jq,sqlite}-files
 
 # ---- the documents
 
-# each document as a text, as JSON and as rows of a table
-awk 'BEGIN {
-    leaves = 1000000
-    fields = 5
-    print "ordered", leaves > "map"
-    for (i = 1; i <= leaves; i++) {
-        key = sprintf("key%07d", i)
-        text = "value number " i
-        printf "%s\"%s\":%s", i == 1 ? "{" : ",", key, i % 2 ? i : "\"" text "\"" > "map.json"
-        printf "%s\t%s\n", key, i % 2 ? i : text > "map.rows"
-        printf "'\''%s\n%s\n", key, i % 2 ? "int " i : "text '\''value\\snumber\\s" i > "map"
-    }
-    print "}" > "map.json"
-    print "list", leaves / fields > "records"
-    for (place = 0; place < leaves / fields; place++) {
-        i = place * fields + fields
-        score = i * 7919 % 1000
-        printf "ordered 5\n'\''active\nbool true\n'\''id\nint %d\n'\''mail\ntext '\''user%d@example.org\n" \
-            "'\''name\ntext '\''user\\s%d\n'\''score\nint %d\n", i, i, i, score > "records"
-        printf "%s{\"active\":true,\"id\":%d,\"mail\":\"user%d@example.org\",\"name\":\"user %d\",\"score\":%d}", \
-            place ? "," : "[", i, i, i, score > "records.json"
-        printf "%d\tactive\ttrue\n%d\tid\t%d\n", place, place, i > "records.rows"
-        printf "%d\tmail\tuser%d@example.org\n", place, i > "records.rows"
-        printf "%d\tname\tuser %d\n%d\tscore\t%d\n", place, i, place, score > "records.rows"
-    }
-    print "]" > "records.json"
-}'
+# each document as a text, as JSON and as rows of a table, of the records a row for each leaf
+leaves=1000000
+text_of ordered $leaves > map
+json_of ordered $leaves > map.json
+rows_of ordered $leaves > map.rows
+text_of records $leaves > records
+json_of records $leaves > records.json
+rows_of records $leaves | awk -F '\t' 'BEGIN { split("active id mail name score", fields, " ") } {
+    for (i = 1; i <= 5; i++)
+        printf "%s\t%s\t%s\n", $1, fields[i], $(i + 1)
+}' > records.rows
 cat > map.table << 'END'
 pragma synchronous = off;
 pragma journal_mode = off;
@@ -73,42 +58,28 @@ END
 
 # ---- the lines, and statements that request the same
 
-# 100,000 places of each document, in no order; and of its maps all keys, and ranges
-awk 'BEGIN {
-    split("active id mail name score", fields, " ")
-    of = "select value from leaves where"
+# 100,000 places of each document, in no order
+write_lines $leaves 100000
+for document in map records; do
+    paths $document.get > $document.paths
+    statements $document.get > $document.get.sql
+    { echo 'begin;'; statements $document.set; echo 'commit;'; } > $document.set.sql
+done
+# of its maps all keys, and ranges
+awk -v leaves=$leaves 'BEGIN {
     list = "select key from leaves where"
-    edit = "update leaves set value ="
-    print "begin;" > "map.set.sql"
-    print "begin;" > "records.set.sql"
     for (i = 1; i <= 100000; i++) {
-        place = i * 7919 % 1000000
-        key = sprintf("key%07d", place + 1)
-        number_key = sprintf("key%07d", place - place % 2 + 1)
-        record = place % 200000
-        field = fields[int(place / 200000) + 1]
-        print "get '\''" key > "map.get"
-        printf "[\"%s\"]\n", key > "map.paths"
-        printf "%s key = '\''%s'\'';\n", of, key > "map.get.sql"
-        print "set int " i " '\''" number_key > "map.set"
-        printf "%s %d where key = '\''%s'\'';\n", edit, i, number_key > "map.set.sql"
-        print "get #" record " '\''" field > "records.get"
-        printf "[%d,\"%s\"]\n", record, field > "records.paths"
-        printf "%s record = %d and key = '\''%s'\'';\n", of, record, field > "records.get.sql"
-        print "set int " i " #" record " '\''score" > "records.set"
-        printf "%s %d where record = %d and key = '\''score'\'';\n", edit, i, record > "records.set.sql"
+        record = i * 7919 % leaves % (leaves / 5)
         print "keys #" record > "records.keys"
         printf "%s record = %d order by key;\n", list, record > "records.keys.sql"
         print "range '\''id '\''name #" record > "records.range"
         printf "%s record = %d and key >= '\''id'\'' and key < '\''name'\'' order by key;\n", list, record \
             > "records.range.sql"
     }
-    print "commit;" > "map.set.sql"
-    print "commit;" > "records.set.sql"
     print "keys" > "map.keys"
     print "select key from leaves order by key;" > "map.keys.sql"
     for (i = 1; i <= 1000; i++) {
-        first = i * 7919 % 999900 + 1
+        first = i * 7919 % (leaves - 100) + 1
         low = sprintf("key%07d", first)
         high = sprintf("key%07d", first + 100)
         printf "range '\''%s '\''%s\n", low, high > "map.range"
@@ -187,10 +158,6 @@ answered() {
     local answers=$1-files/answers
     shift
     [ ! -e "$answers" ] || { "$@" cab-files/answers > told && same told "$answers"; }
-}
-
-heads() {
-    sed "s/^[a-z]* '*//; s/\\\\s/ /g" "$@"
 }
 
 keys() {

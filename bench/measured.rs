@@ -1,5 +1,19 @@
-//! The functions that forms.rs and numbers.rs share: times of two calls that are made in turns, a line that compares
+//! The functions that the programs of loops share: times of calls that are made in turns, a line that compares two of
 //! them, and numbers without order.
+
+/// Returns the least time of each call. They are made in turns, `rounds` times each, and each round begins with another
+/// one. Each call returns the time that it took.
+pub fn least_of(rounds: usize, calls: &mut [impl FnMut() -> f64]) -> Vec<f64> {
+    let count = calls.len();
+    let mut least = vec![f64::MAX; count];
+    for round in 0..rounds {
+        for turn in 0..count {
+            let at = (round + turn) % count;
+            least[at] = least[at].min(calls[at]());
+        }
+    }
+    least
+}
 
 /// Returns the least times of two calls, which are made in turns, `rounds` times each. Each call returns the time that
 /// it took.
@@ -8,17 +22,9 @@ pub fn least(
     mut ours: impl FnMut() -> f64,
     mut rust: impl FnMut() -> f64,
 ) -> (f64, f64) {
-    let (mut by_ours, mut by_rust) = (f64::MAX, f64::MAX);
-    for round in 0..rounds {
-        if round % 2 == 0 {
-            by_ours = by_ours.min(ours());
-            by_rust = by_rust.min(rust());
-        } else {
-            by_rust = by_rust.min(rust());
-            by_ours = by_ours.min(ours());
-        }
-    }
-    (by_ours, by_rust)
+    let mut calls: [&mut dyn FnMut() -> f64; 2] = [&mut ours, &mut rust];
+    let times = least_of(rounds, &mut calls);
+    (times[0], times[1])
 }
 
 /// Prints the times that two calls take for each of their elements, in nanoseconds, and returns their ratio.

@@ -5,10 +5,10 @@ use crate::forms::{self, Archive, Archived, Context, Refused};
 
 /// A number, a text, an option of a number, and texts.
 pub struct Record {
-    number: u64,
-    name: String,
-    odd: Option<u32>,
-    tags: Vec<String>,
+    pub number: u64,
+    pub name: String,
+    pub odd: Option<u32>,
+    pub tags: Vec<String>,
 }
 
 const NAME: usize = 8;

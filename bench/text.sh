@@ -7,6 +7,7 @@
 set -eu
 leaves=${1:-1000000}
 root=$(cd "$(dirname "$0")/.." && pwd)
+source "$root/bench/documents.sh"
 work=$(mktemp -d)
 trap 'rm -rf "$work"' EXIT
 copy=$root/crates/cabinet_text_copy/out/cabinet_text_copy
@@ -21,40 +22,6 @@ processor=$(sed -n 's/^logic=proved.* cpu=\([^ ]*\).*/\1/p' "$work/log" | tail -
 cd "$work"
 rustc --edition 2024 -C opt-level=3 -C codegen-units=1 ${processor:+-C target-cpu="$processor"} \
     -o plain "$root/bench/plain_text.rs"
-
-# prints the document $1 of $2 leaves, as a text
-text() {
-    awk -v kind="$1" -v leaves="$2" 'BEGIN {
-        fields = 5
-        if (kind != "records") {
-            print kind, leaves
-            for (i = 1; i <= leaves; i++)
-                printf "'\''key%07d\n%s\n", i, i % 2 ? "int " i : "text '\''value\\snumber\\s" i
-            exit
-        }
-        print "list", leaves / fields
-        for (i = fields; i <= leaves; i += fields)
-            printf "ordered 5\n'\''active\nbool true\n'\''id\nint %d\n'\''mail\ntext '\''user%d@example.org\n" \
-                "'\''name\ntext '\''user\\s%d\n'\''score\nint %d\n", i, i, i, i * 7919 % 1000
-    }'
-}
-
-# prints the same document as JSON
-json() {
-    awk -v kind="$1" -v leaves="$2" 'BEGIN {
-        fields = 5
-        if (kind != "records") {
-            for (i = 1; i <= leaves; i++)
-                printf "%s\"key%07d\":%s", i == 1 ? "{" : ",", i, i % 2 ? i : "\"value number " i "\""
-            print "}"
-            exit
-        }
-        for (i = fields; i <= leaves; i += fields)
-            printf "%s{\"active\":true,\"id\":%d,\"mail\":\"user%d@example.org\",\"name\":\"user %d\",\"score\":%d}", \
-                i == fields ? "[" : ",", i, i, i, i * 7919 % 1000
-        print "]"
-    }'
-}
 
 # prints the milliseconds of the processor that a command takes from the file $1 to the file copied
 spent() {
@@ -87,8 +54,8 @@ instructions() {
 echo "$leaves leaves, for the processor ${processor:-that rustc assumes}; times in milliseconds, instructions in thousands"
 printf '%-10s%8s%8s%8s%8s%8s%12s%12s%8s\n' document copy plain ratio jq ratio copy plain ratio
 for kind in ordered hashed kept records; do
-    text $kind "$leaves" > text
-    json $kind "$leaves" > json
+    text_of $kind "$leaves" > text
+    json_of $kind "$leaves" > json
     by_copy=0 by_plain=0 by_jq=0 ours=0 theirs=0
     for _ in 1 2 3 4 5; do
         by_copy=$(least $by_copy "$(spent text "$copy")")
@@ -100,7 +67,7 @@ for kind in ordered hashed kept records; do
         fi
     done
     if command -v valgrind > /dev/null; then
-        text $kind $((leaves / 10)) > text
+        text_of $kind $((leaves / 10)) > text
         ours=$(instructions text "$copy")
         theirs=$(instructions text ./plain)
     fi
