@@ -20,6 +20,8 @@ mod sealing;
 #[cfg(test)]
 mod sets;
 #[cfg(test)]
+mod shared;
+#[cfg(test)]
 mod sizes;
 #[cfg(test)]
 mod writing;

@@ -24,4 +24,6 @@ mod scanning;
 #[cfg(test)]
 mod sealing;
 #[cfg(test)]
+mod shared;
+#[cfg(test)]
 mod writing;
