@@ -576,6 +576,25 @@ bytes
 END
 finish
 
+# an empty place is told by any control from 80 on, though ff is written
+stored 'a place that is empty by the control 80' "61ffffffffffffff02000000776f726c64ffffff$(zeros 44)80558055$(printf '80%.0s' {1..27})0007000000dcffffff0100000002000000$(zeros 8)"
+maps << 'END'
+         0         95 table
+        95          1 unused
+        96         24 root
+
+nodes
+                    1 text
+                    1 hashed
+                    2 in all
+bytes
+                   24 root
+                   95 tables
+                    1 unused
+                  120 in all
+END
+finish
+
 built "kept 1\n'a\nkept 2\n'hello\\sworld!\nkept 0\n'b\ntext '123456789"
 maps << 'END'
          0         39 table
