@@ -5,7 +5,7 @@ use Rattle.cab_files.specs.Cabinet.Archives.Refused.{refusal_of}
 use Rattle.cab_files.specs.Cabinet.Documents.Audit.{IsRefusedFor}
 use Rattle.cab_files.specs.Cabinet.Reporting.{spelled_fault}
 use Rattle.cab_files.specs.Cabinet.declared.fault.Fault.{Fault}
-use Rattle.cab_files.specs.Cabinet.declared.fault.Fault.TheVariants.{Usage, CannotRead, CannotWrite, Text, Save, Open, Run}
+use Rattle.cab_files.specs.Cabinet.declared.fault.Fault.TheVariants.{Usage, CannotRead, CannotWrite, Open}
 
 -- the faults with which showing an archive file ends; the text goes to no file with a name
 abbrev pub EndsShowBy : String Global → Fault → Type 0
