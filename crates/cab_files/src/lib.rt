@@ -7,7 +7,7 @@ mod output;
 mod reading;
 
 pub use arguments::words;
-pub use cabinet::{ArchivedNode, Fault, OpenRefusal, fault_line, write_document};
+pub use cabinet::{Fault, OpenRefusal, fault_line, write_document};
 pub use ending::{exit_code, standard_output};
 pub use output::OutputStream;
 pub use reading::read;

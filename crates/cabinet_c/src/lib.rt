@@ -10,3 +10,5 @@ mod loading;
 mod putting;
 mod setting;
 mod status;
+#[cfg(test)]
+mod tests;

@@ -8,7 +8,7 @@ use archive_core_validation::{
     ArchiveContext, ArchiveValidator, PushedRange, SharedValidator, Validator, access_with_context,
 };
 use archive_shape_writing::Error;
-use cab_files::{ArchivedNode, OpenRefusal};
+use cabinet::{ArchivedNode, OpenRefusal};
 use std::alloc::Global;
 
 /// A context of checks that also records each region that is claimed in it, before those that are claimed inside it.

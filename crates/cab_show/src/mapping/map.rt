@@ -1,5 +1,5 @@
 //! The map of the bytes of an archive.
-ghost use Rattle.std.specs.Prelude.{◌≡◌, ◌-◌, ◌^◌, ◌<◌, IfErr, OnOk, MatchResult};
+ghost use Rattle.std.specs.Prelude.{◌≡◌, ◌-◌, ◌^◌, ◌<◌, IfErr, MatchResult};
 ghost use Rattle.cab_files.specs.Cabinet.Archives.Refused.{refusal_of};
 ghost use Rattle.cab_files.specs.Cabinet.Documents.Accepted.{Accepted};
 ghost use Rattle.cab_files.specs.Cabinet.Documents.Audit.{IsRefusedFor};
@@ -11,21 +11,8 @@ use crate::mapping::naming::name_regions;
 use crate::mapping::regions::{Region, regions_of};
 use crate::mapping::summary::write_summary;
 use archive_shape_writing::{Error, Writer};
-use cab_files::{OpenRefusal, OutputStream, write_document};
+use cabinet::{OpenRefusal, check};
 use std::alloc::Global;
-use std::io;
-
-/// Checks bytes as they are checked where their document is shown, with the same refusals.
-fn check(alloc: Global, bytes: &[u8]) -> Result<(), OpenRefusal>
-    ensures accepted { OnOk result ((t : Tree) × Accepted bytes.now t) }
-    ensures refused { IfErr result (λ refusal. IsRefusedFor bytes.now (refusal_of refusal)) }
-{
-    let mut nowhere = OutputStream::new(io::sink(), false);
-    match write_document(alloc, bytes, &mut nowhere) {
-        Ok(_) => Ok(()),
-        Err(refusal) => Err(refusal),
-    }
-}
 
 /// Returns the regions of an archive that was accepted, with what they are and the nodes that lead to them.
 fn named_regions(alloc: Global, archive: &[u8]) -> Result<Vec<Region>, OpenRefusal>

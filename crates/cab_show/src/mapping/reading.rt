@@ -4,7 +4,7 @@ ghost use Rattle.std.specs.Prelude.{◌≡◌, ◌+◌, ◌≤◌, length, IfSom
 
 use crate::mapping::regions::{Region, What};
 use archive_forms_values::{ArchivedStringRepr, read_target, read_word};
-use cabinet_text_nodes::Kind;
+use cabinet::Kind;
 
 /// The size of a node.
 const NODE: usize = 24;
