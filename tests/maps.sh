@@ -817,8 +817,18 @@ for output in /dev/full closed; do
     finish
 done
 
-begin 'memory is refused for a map'
+# the check takes none for the document, and the map some for each region
+begin 'a map takes no memory for the document'
 yes none | head -n 1000000 | sed '1i list 1000000' > text
+run build text a.cab
+(ulimit -v 45000 && "$show" --map --lines 1 a.cab < input > output 2> errors)
+ended=$?
+[ "$(head -n 2 output)" = $'         0   24000000 elements\n.. and 1 more' ] || differs "it printed $(head -c 200 output | tr '\n' '|')"
+ends 0 ''
+finish
+
+begin 'memory is refused for a map'
+{ echo list 400000; yes "some\nint 1" | head -n 400000 | sed 's/\\n/\n/'; } > text
 run build text a.cab
 (ulimit -v 45000 && "$show" --map a.cab < input > output 2> errors)
 ended=$?
