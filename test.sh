@@ -1,7 +1,7 @@
 #!/usr/bin/env bash
-# Proves every crate and runs every test: the count of crates and of paths through crates.txt, the toolchain's merge
-# gate, the programs on files, also where calls are refused, what examples/ has for JSON and for many archives, and the calls
-# from C and Python. The last line reports how many processor minutes that took.
+# Proves every crate and runs every test: the count of crates and of paths through crates.txt, the names in the pages,
+# the toolchain's merge gate, the programs on files, also where calls are refused, what examples/ has for JSON and for
+# many archives, and the calls from C and Python. The last line reports how many processor minutes that took.
 set -u
 cd "$(dirname "$0")" || exit 1
 log=$(mktemp)
@@ -17,6 +17,12 @@ say() {
 echo '== the names in crates.txt'
 if ! tests/paths.sh; then
     say 'crates.txt has too many crates or paths'
+    exit 1
+fi
+
+echo '== the names in docs/MAP.md and docs/FORMAT.md'
+if ! tests/map.sh; then
+    say 'a name or an edit is not where it is said to be'
     exit 1
 fi
 

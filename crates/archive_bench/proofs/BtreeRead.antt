@@ -1,14 +1,14 @@
 -- Texts and entries that are there.
 use Rattle.std.proofs.Common.{◌≡◌, ℕ, List, ◌∷◌, All, subst}
 use Rattle.std.proofs.lemmas.List.Elements.{All-head, All-tail}
-use Rattle.archive_shape.specs.ShapeLayout.Content.{Names}
+use Rattle.archive_shape_layout.specs.Content.{Names}
 use Rattle.archive_shape.proofs.Held.{claims_within}
-use Rattle.archive_shape.specs.ShapeLayout.Shape.Shape.{text}
-use Rattle.archive_forms_values.specs.FormsLaws.Text.{HasText}
-use Rattle.archive_forms_values.proofs.FormsLaws.Held.{held_is_text_law}
+use Rattle.archive_shape_layout.specs.Shape.Shape.{text}
+use Rattle.archive_forms_laws.specs.Text.{HasText}
+use Rattle.archive_forms_laws.proofs.Held.{held_is_text_law}
 use Rattle.archive_forms_values.specs.Parts.{HasValue}
 use Rattle.archive_shape.specs.declared.references.refs.Ref.{Ref}
-use Rattle.archive_btree_walking.specs.Refs.{IsThere}
+use Rattle.archive_btree_maps.specs.Refs.{IsThere}
 use Rattle.archive_bench.specs.BtreeTexts.{text_shape, number_shape, known}
 use Rattle.archive_bench.proofs.Held.{text_there}
 

@@ -1,14 +1,14 @@
 -- Values that are elements.
 use Rattle.std.proofs.Common.{◌≡◌, ℕ, ◌+◌, ◌*◌, ◌<◌, List, ap, subst, sym}
-use Rattle.archive_shape.specs.ShapeLayout.Shape.{Shape, size_of}
-use Rattle.archive_shape.specs.ShapeLayout.Shape.Shape.{text, option}
-use Rattle.archive_shape.specs.ShapeLayout.Content.{Names}
-use Rattle.archive_forms_values.specs.FormsLaws.Text.{HasText, IsText}
+use Rattle.archive_shape_layout.specs.Shape.{Shape, size_of}
+use Rattle.archive_shape_layout.specs.Shape.Shape.{text, option}
+use Rattle.archive_shape_layout.specs.Content.{Names}
+use Rattle.archive_forms_laws.specs.Text.{HasText, IsText}
 use Rattle.archive_shape.proofs.Held.{claims_within}
-use Rattle.archive_forms_values.proofs.FormsLaws.Held.{held_is_text_law, text_value}
-use Rattle.archive_shape.specs.ShapeLayout.Value.{Value}
+use Rattle.archive_forms_laws.proofs.Held.{held_is_text_law, text_value}
+use Rattle.archive_shape_layout.specs.Value.{Value}
 use Rattle.archive_shape.specs.Key.{HeldAt}
-use Rattle.archive_forms_values.specs.FormsLaws.Views.{text_of}
+use Rattle.archive_forms_laws.specs.Views.{text_of}
 use Rattle.archive_forms_values.specs.Parts.{HasValue, HasElements, IsSomeAt, some_position}
 
 -- a value lies at each index

@@ -1,9 +1,9 @@
 -- The layout of maps of texts to numbers.
 use Rattle.std.specs.Prelude.{false, ⊤}
 use Rattle.std.specs.Int.{w64}
-use Rattle.archive_shape.specs.ShapeLayout.Shape.{Shape}
-use Rattle.archive_shape.specs.ShapeLayout.Shape.Shape.{number, text, tree}
-use Rattle.archive_shape.specs.ShapeLayout.Content.{Names}
+use Rattle.archive_shape_layout.specs.Shape.{Shape}
+use Rattle.archive_shape_layout.specs.Shape.Shape.{number, text, tree}
+use Rattle.archive_shape_layout.specs.Content.{Names}
 use Rattle.archive_forms_values.specs.Parts.{both}
 
 abbrev pub text_shape : Shape

@@ -1,10 +1,10 @@
 -- What is summed of archived values.
 use Rattle.std.specs.Prelude.{◌≡◌, ℕ, ◌+◌, ◌-◌, ◌%◌, ◌^◌, List, length, slice_get, unwrap_or, Option, Some, None, ⊤}
 use Rattle.std.specs.List.{sum_by}
-use Rattle.archive_shape.specs.ShapeLayout.Shape.{Shape}
-use Rattle.archive_shape.specs.ShapeLayout.Value.{Value}
+use Rattle.archive_shape_layout.specs.Shape.{Shape}
+use Rattle.archive_shape_layout.specs.Value.{Value}
 use Rattle.archive_shape.specs.Key.{HeldAt}
-use Rattle.archive_forms_values.specs.FormsLaws.Views.{natural_of, text_of, option_of, elements_of}
+use Rattle.archive_forms_laws.specs.Views.{natural_of, text_of, option_of, elements_of}
 
 -- a number is the result of a function for each value that lies at a position
 abbrev pub IsOf : (Value → ℕ) → Shape → List ℕ → ℕ → ℕ → Type 0

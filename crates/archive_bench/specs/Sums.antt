@@ -1,7 +1,7 @@
 -- Sums of numbers in a buffer.
 use Rattle.std.specs.Prelude.{ℕ, zero, suc, ◌+◌, nat_lt, cond, ℤ, pos, negsuc, ◌+ℤ◌, ◌^◌, List}
 use Rattle.std.specs.Int.{w32, w64, from_le_bytes}
-use Rattle.archive_shape.specs.ShapeLayout.Bytes.{window}
+use Rattle.archive_shape_layout.specs.Bytes.{window}
 use Rattle.archive_shape.specs.Offsets.{signed_number}
 
 -- the i64 and the u32 at a position

@@ -1,5 +1,5 @@
 //! Values made of numbers, which the benchmarks archive.
-use archive_shape_writing::Error;
+use archive_shape_layout::Error;
 use std::alloc::Global;
 
 /// A number, a text, an option of a number, and texts.

@@ -1,8 +1,8 @@
 //! Writes of and accesses to whole archives, called from outside.
 ghost use Rattle.std.specs.Prelude.{length, ⊤};
 ghost use Rattle.std.specs.Bool.{MatchBool};
-ghost use Rattle.archive_shape.specs.ShapeLayout.Content.{Names};
-ghost use Rattle.archive_shape.specs.ShapeLayout.Holds.{root_position};
+ghost use Rattle.archive_shape_layout.specs.Content.{Names};
+ghost use Rattle.archive_shape_layout.specs.Holds.{root_position};
 ghost use Rattle.archive_forms_values.specs.Parts.{HasValue};
 
 use crate::values::{lists, options, records, texts};

@@ -8,32 +8,32 @@ use Rattle.std.specs.declared.cmp.Ordering.{Ordering}
 use Rattle.std.specs.declared.cmp.Ordering.TheVariants.{Less, Equal, Greater}
 use Rattle.std.proofs.lemmas.List.Elements.{All-nil, All-cons, All-head, All-tail}
 use Rattle.std.proofs.lemmas.List.Kept.{AllPairs-cons}
-use Rattle.archive_shape.specs.ShapeLayout.Shape.{Shape}
-use Rattle.archive_shape.specs.ShapeLayout.Shape.Shape.{tree}
-use Rattle.archive_shape.specs.ShapeLayout.Value.{Value, Values}
-use Rattle.archive_shape.specs.ShapeLayout.Value.Value.{group}
-use Rattle.archive_shape.specs.ShapeLayout.Value.Values.{no_values, more_values}
-use Rattle.archive_shape.specs.ShapeLayout.Content.{Names, members}
-use Rattle.archive_shape.specs.ShapeLayout.Holds.{root_position}
+use Rattle.archive_shape_layout.specs.Shape.{Shape}
+use Rattle.archive_shape_layout.specs.Shape.Shape.{tree}
+use Rattle.archive_shape_layout.specs.Value.{Value, Values}
+use Rattle.archive_shape_layout.specs.Value.Value.{group}
+use Rattle.archive_shape_layout.specs.Value.Values.{no_values, more_values}
+use Rattle.archive_shape_layout.specs.Content.{Names, members}
+use Rattle.archive_shape_layout.specs.Holds.{root_position}
 use Rattle.archive_shape.specs.Key.{HeldAt}
-use Rattle.archive_forms_writing.specs.FormsValues.Parts.{both}
-use Rattle.archive_forms_writing.proofs.FormsValues.Rooted.{root_held}
+use Rattle.archive_forms_values.specs.Parts.{both}
+use Rattle.archive_forms_values.proofs.Rooted.{root_held}
 use Rattle.archive_forms_laws.specs.State.{State}
 use Rattle.archive_forms_laws.specs.Spelling.{Spelling, state_after}
 use Rattle.archive_btree_spelling.specs.Maps.{btree_spelling}
 use Rattle.archive_btree_spelling.specs.Written.{entry_spelling}
 use Rattle.archive_btree_spelling.proofs.Spelled.{AreSpelled, entries_spelled}
-use Rattle.archive_btree_spelling.proofs.BtreeLayout.Descending.{descent_finds, asc_of}
-use Rattle.archive_btree_walking.specs.BtreeLayout.Descent.{descend}
-use Rattle.archive_btree_walking.specs.BtreeLayout.Reading.{Place}
-use Rattle.archive_btree_walking.specs.BtreeLayout.Tree.{Tree, items}
-use Rattle.archive_btree_walking.specs.Lookups.{QueryOrders, QuerySays, HasKey}
-use Rattle.archive_btree_walking.specs.Maps.{IsMapAt, AreEntriesAt, IsEntryAt}
-use Rattle.archive_btree_walking.proofs.LookedUp.{ordered_search}
-use Rattle.archive_btree_walking.proofs.Read.{map_is_read}
+use Rattle.archive_btree_layout.proofs.Descending.{descent_finds, asc_of}
+use Rattle.archive_btree_layout.specs.Descent.{descend}
+use Rattle.archive_btree_layout.specs.Reading.{Place}
+use Rattle.archive_btree_layout.specs.Tree.{Tree, items}
+use Rattle.archive_btree_maps.specs.Lookups.{QueryOrders, QuerySays, HasKey}
+use Rattle.archive_btree_maps.specs.Maps.{IsMapAt, AreEntriesAt, IsEntryAt}
+use Rattle.archive_btree_maps.proofs.LookedUp.{ordered_search}
+use Rattle.archive_btree_maps.proofs.ReadTree.{map_is_read}
 use Rattle.archive_btree.specs.Answering.{IsWrittenMap, HasEntry, KeysAscend, entry_with, FindsEntry, AnswersKeys}
-use Rattle.archive_btree_nodes.specs.Descents.{DescendsTo}
-use Rattle.archive_btree_nodes.proofs.Sublists.{pairs_head, pairs_tail}
+use Rattle.archive_btree_maps.specs.Descents.{DescendsTo}
+use Rattle.archive_btree_maps.proofs.Sublists.{pairs_head, pairs_tail}
 
 -- ---- orders
 

@@ -2,30 +2,30 @@
 use Rattle.std.proofs.Common.{◌≡◌, ◌∙◌, ℕ, ◌<◌, ◌≤◌, List, [], ◌∷◌, ◌++◌, length, map, refl, ap, sym, subst, arith, append_assoc, append-nil}
 use Rattle.std.specs.declared.cmp.Ordering.{Ordering}
 use Rattle.std.specs.BTreeMap.{insert_entry}
-use Rattle.archive_shape.specs.ShapeLayout.Shape.{Shape}
-use Rattle.archive_shape.specs.ShapeLayout.Shape.Shape.{tree}
-use Rattle.archive_shape.specs.ShapeLayout.Value.{Value, Values}
-use Rattle.archive_shape.specs.ShapeLayout.Value.Value.{group, back}
-use Rattle.archive_shape.specs.ShapeLayout.Value.Values.{no_values, more_values}
-use Rattle.archive_shape.specs.ShapeLayout.Content.{Names, members}
-use Rattle.archive_shape.proofs.ShapeLayout.Visited.{claimed_raised}
-use Rattle.archive_forms_laws.specs.ShapeCanonical.Sharing.{erased, all_erased}
+use Rattle.archive_shape_layout.specs.Shape.{Shape}
+use Rattle.archive_shape_layout.specs.Shape.Shape.{tree}
+use Rattle.archive_shape_layout.specs.Value.{Value, Values}
+use Rattle.archive_shape_layout.specs.Value.Value.{group, back}
+use Rattle.archive_shape_layout.specs.Value.Values.{no_values, more_values}
+use Rattle.archive_shape_layout.specs.Content.{Names, members}
+use Rattle.archive_shape_layout.proofs.Visited.{claimed_raised}
+use Rattle.archive_shape_canonical.specs.Sharing.{erased, all_erased}
 use denote.Ref.{Bor}
 use Rattle.archive_shape.specs.declared.references.refs.Ref.{Ref}
 use Rattle.archive_shape.specs.Key.{HeldAt}
-use Rattle.archive_forms_writing.specs.FormsValues.Parts.{HasValue, both}
+use Rattle.archive_forms_values.specs.Parts.{HasValue, both}
 use Rattle.archive_forms.proofs.Plain.{members_of_group}
 use Rattle.archive_forms.specs.Deserializing.{IsReadAt}
 use Rattle.archive_forms.specs.Reading.{reads_all, reads_each, reads_tuple2}
-use Rattle.archive_btree_spelling.specs.BtreeLayout.Items.{ArePairs, IsTreeRead}
-use Rattle.archive_btree_spelling.specs.BtreeLayout.Items.IsTreeRead.{reads_none, reads_tree}
-use Rattle.archive_btree_spelling.specs.BtreeLayout.Reading.{Place}
-use Rattle.archive_btree_spelling.specs.BtreeLayout.Tree.{Tree, items}
-use Rattle.archive_btree_spelling.proofs.BtreeLayout.Mapped.{tree_is_read}
-use Rattle.archive_btree_walking.specs.Maps.{IsMapAt, IsMapOf, AreEntriesAt}
-use Rattle.archive_btree_walking.specs.Refs.{entry_at}
-use Rattle.archive_btree_walking.proofs.One.{one_map}
-use Rattle.archive_btree_walking.proofs.Read.{map_is_read}
+use Rattle.archive_btree_layout.specs.Items.{ArePairs, IsTreeRead}
+use Rattle.archive_btree_layout.specs.Items.IsTreeRead.{reads_none, reads_tree}
+use Rattle.archive_btree_layout.specs.Reading.{Place}
+use Rattle.archive_btree_layout.specs.Tree.{Tree, items}
+use Rattle.archive_btree_layout.proofs.Mapped.{tree_is_read}
+use Rattle.archive_btree_maps.specs.Maps.{IsMapAt, IsMapOf, AreEntriesAt}
+use Rattle.archive_btree_maps.specs.Refs.{entry_at}
+use Rattle.archive_btree_maps.proofs.One.{one_map}
+use Rattle.archive_btree_maps.proofs.ReadTree.{map_is_read}
 use Rattle.archive_btree.specs.ReadBack.{inserted, reads_map}
 use Rattle.archive_btree.proofs.Widths.{has_width}
 

@@ -1,13 +1,13 @@
 -- A tree that has an item has room for one in each node.
 use Rattle.std.proofs.Common.{◌≡◌, ◌∙◌, ℕ, zero, suc, ◌<◌, ◌≤◌, List, [], refl, ap, sym, arith}
-use Rattle.archive_shape.specs.ShapeLayout.Shape.{Shape}
-use Rattle.archive_btree_spelling.specs.BtreeLayout.Reading.{Place, places, HasNode, HasBranches, HasChild}
-use Rattle.archive_btree_spelling.specs.BtreeLayout.Reading.HasNode.{has_leaf, has_inner}
-use Rattle.archive_btree_spelling.specs.BtreeLayout.Reading.HasBranches.{has_greater, has_lesser}
-use Rattle.archive_btree_spelling.specs.BtreeLayout.Reading.HasChild.{no_child, a_child}
-use Rattle.archive_btree_spelling.specs.BtreeLayout.Tree.{Tree, Branches, items, items_of}
-use Rattle.archive_btree_walking.specs.Maps.{IsMapAt}
-use Rattle.archive_btree_walking.specs.Maps.IsMapAt.{has_none, has_root}
+use Rattle.archive_shape_layout.specs.Shape.{Shape}
+use Rattle.archive_btree_layout.specs.Reading.{Place, places, HasNode, HasBranches, HasChild}
+use Rattle.archive_btree_layout.specs.Reading.HasNode.{has_leaf, has_inner}
+use Rattle.archive_btree_layout.specs.Reading.HasBranches.{has_greater, has_lesser}
+use Rattle.archive_btree_layout.specs.Reading.HasChild.{no_child, a_child}
+use Rattle.archive_btree_layout.specs.Tree.{Tree, Branches, items, items_of}
+use Rattle.archive_btree_maps.specs.Maps.{IsMapAt}
+use Rattle.archive_btree_maps.specs.Maps.IsMapAt.{has_none, has_root}
 
 none_placed : (n : ℕ) (k : Shape) (key : ℕ) (v : Shape) (value : ℕ) → n ≡ 0 → places n k key v value ≡ []
 none_placed zero k key v value e = refl

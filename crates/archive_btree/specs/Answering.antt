@@ -5,22 +5,22 @@ use Rattle.std.specs.List.{AllZip, find}
 use Rattle.std.specs.Ordering.{is_eq}
 use Rattle.std.specs.declared.cmp.Ordering.{Ordering}
 use Rattle.std.specs.declared.cmp.Ordering.TheVariants.{Less}
-use Rattle.archive_shape.specs.ShapeLayout.Shape.{Shape}
-use Rattle.archive_shape.specs.ShapeLayout.Shape.Shape.{tree}
-use Rattle.archive_shape.specs.ShapeLayout.Content.{Names}
-use Rattle.archive_shape.specs.ShapeLayout.Holds.{Region, Visit, root_position}
+use Rattle.archive_shape_layout.specs.Shape.{Shape}
+use Rattle.archive_shape_layout.specs.Shape.Shape.{tree}
+use Rattle.archive_shape_layout.specs.Content.{Names}
+use Rattle.archive_shape_layout.specs.Holds.{Region, Visit, root_position}
 use Rattle.archive_shape.specs.Key.{HeldAt}
-use Rattle.archive_forms_writing.specs.FormsValues.Parts.{both}
-use Rattle.archive_forms_laws.specs.ShapeCanonical.Settled.{Fit}
-use Rattle.archive_forms_laws.specs.ShapeCanonical.Canonical.{CanonicalArchive}
+use Rattle.archive_forms_values.specs.Parts.{both}
+use Rattle.archive_shape_canonical.specs.Settled.{Fit}
+use Rattle.archive_shape_canonical.specs.Canonical.{CanonicalArchive}
 use Rattle.archive_forms_laws.specs.State.{State}
 use Rattle.archive_forms_laws.specs.Spelling.{Spelling, state_after}
 use Rattle.archive_btree_spelling.specs.Maps.{btree_spelling}
-use Rattle.archive_btree_walking.specs.BtreeLayout.Descent.{descend}
-use Rattle.archive_btree_walking.specs.BtreeLayout.Reading.{Place}
-use Rattle.archive_btree_walking.specs.BtreeLayout.Tree.{Tree, items}
-use Rattle.archive_btree_walking.specs.Lookups.{QueryOrders, IsEqualKey, HasKey}
-use Rattle.archive_btree_walking.specs.Maps.{IsMapAt}
+use Rattle.archive_btree_layout.specs.Descent.{descend}
+use Rattle.archive_btree_layout.specs.Reading.{Place}
+use Rattle.archive_btree_layout.specs.Tree.{Tree, items}
+use Rattle.archive_btree_maps.specs.Lookups.{QueryOrders, IsEqualKey, HasKey}
+use Rattle.archive_btree_maps.specs.Maps.{IsMapAt}
 
 module _ {A B R P : Type 0} (most : ℕ) (k v : Shape) (knows others : Names → Type 0) (keys : Spelling A R) (vals : Spelling B P) (bytes : List ℕ) where
   -- bytes are the archive that writing a map of these entries makes, from some position on

@@ -1,10 +1,10 @@
 //! Archiving maps of std: their archived type, and the write of their own bytes.
 ghost use Rattle.std.specs.Prelude.{◌≡◌, refl};
-ghost use Rattle.archive_shape.specs.ShapeLayout.Shape.Shape.{tree};
+ghost use Rattle.archive_shape_layout.specs.Shape.Shape.{tree};
 ghost use Rattle.archive_forms_laws.specs.Forms.{seen_as};
 ghost use Rattle.archive_forms_laws.specs.Serializing.{CanResolve, Resolves};
 ghost use Rattle.archive_forms_laws.proofs.Views.{kept_spells_at, known_spells, seen_spells_at};
-ghost use Rattle.archive_forms_writing.specs.FormsValues.Parts.{both};
+ghost use Rattle.archive_forms_values.specs.Parts.{both};
 ghost use Rattle.archive_btree_spelling.proofs.Maps.{map_spells};
 ghost use Rattle.archive_btree.specs.Owned.{entries_spelling};
 

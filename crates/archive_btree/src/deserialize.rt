@@ -1,12 +1,12 @@
 //! Reading archived maps back as maps of std.
 ghost use Rattle.std.specs.Prelude.{length, IfOk};
-ghost use Rattle.archive_shape.specs.ShapeLayout.Shape.Shape.{tree};
-ghost use Rattle.archive_forms_writing.specs.FormsValues.Parts.{HasValue, both};
+ghost use Rattle.archive_shape_layout.specs.Shape.Shape.{tree};
+ghost use Rattle.archive_forms_values.specs.Parts.{HasValue, both};
 ghost use Rattle.archive_forms.specs.Deserializing.{Deserializes, DeserializesBy, IsReadAt};
 ghost use Rattle.archive_forms.specs.Keeping.{both_of};
 ghost use Rattle.archive_forms.specs.Steps.{StepTakes, StepReads};
 ghost use Rattle.archive_btree.specs.ReadBack.{InsertsRead, reads_map};
-ghost use Rattle.archive_btree_walking.specs.Maps.{HasMap};
+ghost use Rattle.archive_btree_maps.specs.Maps.{HasMap};
 
 use crate::OwnedBTreeMap;
 use archive_btree_maps::ArchivedBTreeMap;

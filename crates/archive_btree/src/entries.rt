@@ -6,8 +6,7 @@ ghost use Rattle.archive_btree.specs.Owned.{entries_spelling};
 
 use crate::serialize::serialize_rest_each;
 use archive_btree_maps::BTreeMapResolver;
-use archive_forms_borrowed::EntryParts;
-use archive_forms_writing::{Archive, ArchiveWith};
+use archive_forms_writing::{Archive, ArchiveWith, EntryParts};
 use archive_shape::{Allocator, Error, Writer};
 use std::collections::BTreeMap;
 use std::marker::PhantomData;

@@ -17,12 +17,14 @@ mod serialize_set;
 mod set;
 
 pub use archive_btree_maps::map::Iter;
+pub use archive_btree_maps::nodes::check_btree_each;
+pub use archive_btree_maps::set::Iter as SetIter;
 pub use archive_btree_maps::{
     ArchivedBTreeMap, ArchivedBTreeSet, BTreeMapResolver, BTreeSetResolver, InvalidLength,
     IterSeal, Keys, Range, RangeSeal, Values, ValuesSeal, eq_btree_map, eq_btree_map_with,
     eq_btree_set, eq_map,
 };
-pub use archive_forms_borrowed::{EntryParts, EntryStep, SerializeEntry};
+pub use archive_forms_writing::{EntryParts, EntryStep, SerializeEntry};
 pub use deserialize::deserialize_map_each;
 pub use entries::serialize_entries_with_each;
 pub use map::OwnedBTreeMap;

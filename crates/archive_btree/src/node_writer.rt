@@ -2,8 +2,7 @@
 ghost use Rattle.std.specs.Map.Iter.{deref_pair};
 
 use archive_btree_writing::{NodeStep, write_inner_each, write_leaf_each};
-use archive_forms_borrowed::EntryStep;
-use archive_forms_writing::{Archive, ArchiveWith};
+use archive_forms_writing::{Archive, ArchiveWith, EntryStep};
 use archive_shape::{Allocator, Error, Writer};
 
 /// Writes nodes of borrowed keys and values, whose data is written by a step. The values are archived by `with`.

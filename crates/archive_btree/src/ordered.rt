@@ -10,8 +10,9 @@ ghost use Rattle.archive_btree.specs.Owned.{TakesEntries};
 use crate::node_writer::NodeWriter;
 use archive_btree_maps::BTreeMapResolver;
 use archive_btree_writing::build_tree_each;
-use archive_forms_borrowed::{EntryStep, SerializeEntry};
-use archive_forms_writing::{Archive, ArchiveWith, ByArchive, Serialize};
+use archive_forms_writing::{
+    Archive, ArchiveWith, ByArchive, EntryStep, Serialize, SerializeEntry,
+};
 use archive_shape::{Allocator, Error, Writer};
 use std::marker::PhantomData;
 

@@ -1,8 +1,8 @@
 //! Search trees of keys that come in order.
 ghost use Rattle.std.specs.Prelude.{◌≡◌, ℕ, ◌-◌, ◌^◌, ◌<◌};
 ghost use Rattle.std.specs.Iterator.{IsFinite};
-ghost use Rattle.archive_shape.specs.ShapeLayout.Shape.Shape.{tuple};
-ghost use Rattle.archive_shape.specs.ShapeLayout.Shape.Shapes.{no_shapes};
+ghost use Rattle.archive_shape_layout.specs.Shape.Shape.{tuple};
+ghost use Rattle.archive_shape_layout.specs.Shape.Shapes.{no_shapes};
 ghost use Rattle.archive_forms_laws.specs.Fields.{unit_spelling};
 ghost use Rattle.archive_forms_laws.specs.Serializing.{HasState};
 ghost use Rattle.archive_forms_laws.specs.Taking.{GivesAs};
@@ -13,8 +13,7 @@ use crate::node_writer::NodeWriter;
 use crate::ordered::MAX_ENTRIES;
 use archive_btree_maps::BTreeSetResolver;
 use archive_btree_writing::build_tree_each;
-use archive_forms_borrowed::SerializeEntry;
-use archive_forms_writing::{ByArchive, Serialize};
+use archive_forms_writing::{ByArchive, Serialize, SerializeEntry};
 use archive_shape::{Allocator, Error, Writer};
 use std::marker::PhantomData;
 

@@ -1,9 +1,9 @@
 //! Reading archived sets back as sets of std.
 ghost use Rattle.std.specs.Prelude.{length, IfOk, ⊤};
-ghost use Rattle.archive_shape.specs.ShapeLayout.Shape.Shape.{tree, tuple};
-ghost use Rattle.archive_shape.specs.ShapeLayout.Shape.Shapes.{no_shapes};
+ghost use Rattle.archive_shape_layout.specs.Shape.Shape.{tree, tuple};
+ghost use Rattle.archive_shape_layout.specs.Shape.Shapes.{no_shapes};
 ghost use Rattle.archive_forms_laws.specs.Fields.{unit_spelling};
-ghost use Rattle.archive_forms_writing.specs.FormsValues.Parts.{HasValue, both};
+ghost use Rattle.archive_forms_values.specs.Parts.{HasValue, both};
 ghost use Rattle.archive_forms.specs.Deserializing.{Deserializes, DeserializesBy};
 ghost use Rattle.archive_forms.specs.Reading.{reads_as};
 ghost use Rattle.archive_forms.specs.Steps.{StepTakes, StepReads};

@@ -8,8 +8,9 @@ ghost use Rattle.archive_btree.specs.Owned.{TakesEntries, entries_spelling};
 use crate::OwnedBTreeMap;
 use crate::ordered::serialize_from_ordered_iter_with_each;
 use archive_btree_maps::BTreeMapResolver;
-use archive_forms_borrowed::{EntryStep, SerializeEntry};
-use archive_forms_writing::{Archive, ArchiveWith, ByArchive, Serialize};
+use archive_forms_writing::{
+    Archive, ArchiveWith, ByArchive, EntryStep, Serialize, SerializeEntry,
+};
 use archive_shape::{Allocator, Error, Writer};
 use std::collections::btree_map::Iter;
 

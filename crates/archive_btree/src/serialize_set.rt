@@ -2,8 +2,8 @@
 ghost use Rattle.std.specs.Prelude.{◌≡◌, ◌-◌, ◌^◌, ◌<◌, All, length};
 ghost use Rattle.std.specs.Iterator.{at_most};
 ghost use Rattle.std.specs.Map.Iter.{TakesFirst, deref_pair};
-ghost use Rattle.archive_shape.specs.ShapeLayout.Shape.Shape.{tuple};
-ghost use Rattle.archive_shape.specs.ShapeLayout.Shape.Shapes.{no_shapes};
+ghost use Rattle.archive_shape_layout.specs.Shape.Shape.{tuple};
+ghost use Rattle.archive_shape_layout.specs.Shape.Shapes.{no_shapes};
 ghost use Rattle.archive_forms_laws.specs.Fields.{unit_spelling};
 ghost use Rattle.archive_forms_laws.specs.Forms.{seen_as};
 ghost use Rattle.archive_forms_laws.specs.Serializing.{HasState, Serializes};
@@ -11,8 +11,7 @@ ghost use Rattle.archive_btree.specs.Owned.{TakesEntries, entries_spelling, key_
 
 use crate::{OwnedBTreeSet, serialize_from_ordered_iter_each};
 use archive_btree_maps::BTreeSetResolver;
-use archive_forms_borrowed::{EntryStep, SerializeEntry};
-use archive_forms_writing::{Archive, ByArchive, Serialize};
+use archive_forms_writing::{Archive, ByArchive, EntryStep, Serialize, SerializeEntry};
 use archive_shape::{Allocator, Error, Writer};
 use std::collections::btree_set::Iter;
 use std::marker::Model;

@@ -9,18 +9,18 @@ use Rattle.archive_shape_layout.specs.Value.Value.{group}
 use Rattle.archive_shape_layout.specs.Value.Values.{no_values, more_values}
 use Rattle.archive_shape_layout.specs.Content.{Names, members}
 use Rattle.archive_shape.specs.declared.references.refs.Ref.{Ref}
-use Rattle.archive_btree_nodes.specs.BtreeLayout.Reading.{Place}
-use Rattle.archive_btree_nodes.specs.BtreeLayout.Tree.{Tree, items}
+use Rattle.archive_btree_layout.specs.Reading.{Place}
+use Rattle.archive_btree_layout.specs.Tree.{Tree, items}
 use Rattle.archive_shape.specs.Key.{HeldAt}
 use Rattle.archive_forms_laws.specs.Views.{listed, elements_of}
 use Rattle.archive_forms_laws.specs.Orders.{Equality}
 use Rattle.archive_forms_values.specs.Parts.{both}
 use Rattle.archive_forms_comparing.proofs.Ordered.{equal_end}
 use Rattle.archive_forms_comparing.proofs.Elements.{equal_ends}
-use Rattle.archive_btree_walking.specs.Maps.{IsMapAt, AreEntriesAt}
-use Rattle.archive_btree_walking.specs.Refs.{entry_at}
+use Rattle.archive_btree_maps.specs.Maps.{IsMapAt, AreEntriesAt}
+use Rattle.archive_btree_maps.specs.Refs.{entry_at}
 use Rattle.archive_btree_maps.specs.MapComparing.{pair_equality, IsPairAt, HasPairs, ArePairsAt}
-use Rattle.archive_btree_walking.proofs.Read.{map_is_read}
+use Rattle.archive_btree_maps.proofs.ReadTree.{map_is_read}
 
 -- one of two lists that are as long has ended, and so the first has
 pub first_ended : (A B : Type 0) (xs : List A) (ys : List B) → ((u : List A) × ((xs ≡ []) × (u ≡ []))) ⊎ ((u : List B) × ((ys ≡ []) × (u ≡ []))) → length xs ≡ length ys → length xs ≡ 0

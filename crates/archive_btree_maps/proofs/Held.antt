@@ -8,13 +8,13 @@ use Rattle.archive_shape_layout.specs.Shape.Shape.{tuple}
 use Rattle.archive_shape_layout.specs.Shape.Shapes.{no_shapes}
 use Rattle.archive_shape_layout.specs.Content.{Names}
 use Rattle.archive_shape.specs.declared.references.refs.Ref.{Ref}
-use Rattle.archive_btree_nodes.specs.BtreeLayout.Reading.{Place}
-use Rattle.archive_btree_nodes.specs.BtreeLayout.Tree.{Tree, items}
+use Rattle.archive_btree_layout.specs.Reading.{Place}
+use Rattle.archive_btree_layout.specs.Tree.{Tree, items}
 use Rattle.archive_forms_values.specs.Parts.{HasValue}
-use Rattle.archive_btree_walking.specs.Maps.{IsMapOf}
-use Rattle.archive_btree_walking.specs.Refs.{key_at}
-use Rattle.archive_btree_walking.proofs.Held.{entries_are}
-use Rattle.archive_btree_walking.proofs.Roots.{tree_of_value}
+use Rattle.archive_btree_maps.specs.Maps.{IsMapOf}
+use Rattle.archive_btree_maps.specs.Refs.{key_at}
+use Rattle.archive_btree_maps.proofs.HeldKeys.{entries_are}
+use Rattle.archive_btree_maps.proofs.Roots.{tree_of_value}
 use Rattle.archive_btree_maps.specs.Sets.{HasSet, IsSetAt}
 
 module _ {k : Shape} {knows : Names → Type 0} {most pos : ℕ} where

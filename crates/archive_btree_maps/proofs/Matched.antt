@@ -6,9 +6,9 @@ use Rattle.std.specs.Ordering.{is_eq}
 use Rattle.std.specs.declared.cmp.Ordering.{Ordering}
 use Rattle.std.specs.declared.cmp.Ordering.TheVariants.{Less, Equal, Greater}
 use Rattle.archive_shape.specs.declared.references.refs.Ref.{Ref}
-use Rattle.archive_btree_nodes.specs.BtreeLayout.Reading.{Place}
-use Rattle.archive_btree_walking.specs.Refs.{key_at}
-use Rattle.archive_btree_walking.specs.Lookups.{IsEqualKey}
+use Rattle.archive_btree_layout.specs.Reading.{Place}
+use Rattle.archive_btree_maps.specs.Refs.{key_at}
+use Rattle.archive_btree_maps.specs.Lookups.{IsEqualKey}
 
 tied : (o : Ordering) → true ≡ is_eq o → o ≡ Equal
 tied Less e = absurd cc

@@ -11,17 +11,17 @@ use Rattle.archive_shape_layout.specs.Value.Values.{no_values, more_values}
 use Rattle.archive_shape_layout.specs.Content.{Names, members, shape_content, fields}
 use Rattle.archive_shape_layout.proofs.Visited.{claimed_raised}
 use Rattle.archive_shape_layout.proofs.Unique.{by_plain}
-use Rattle.archive_btree_nodes.specs.BtreeLayout.Items.{ArePairs, IsTreeRead}
-use Rattle.archive_btree_nodes.specs.BtreeLayout.Items.IsTreeRead.{reads_none, reads_tree}
-use Rattle.archive_btree_nodes.specs.BtreeLayout.Reading.{Place}
-use Rattle.archive_btree_nodes.specs.BtreeLayout.Tree.{items}
-use Rattle.archive_btree_nodes.proofs.BtreeLayout.Mapped.{tree_is_read}
+use Rattle.archive_btree_layout.specs.Items.{ArePairs, IsTreeRead}
+use Rattle.archive_btree_layout.specs.Items.IsTreeRead.{reads_none, reads_tree}
+use Rattle.archive_btree_layout.specs.Reading.{Place}
+use Rattle.archive_btree_layout.specs.Tree.{items}
+use Rattle.archive_btree_layout.proofs.Mapped.{tree_is_read}
 use Rattle.archive_shape.specs.Key.{HeldAt}
 use Rattle.archive_forms_laws.specs.Views.{listed, elements_of}
 use Rattle.archive_forms_values.proofs.Inside.{none_held}
 use Rattle.archive_forms_values.proofs.Pointed.{made_whole}
-use Rattle.archive_btree_walking.specs.Maps.{AreEntriesAt}
-use Rattle.archive_btree_walking.proofs.Read.{map_is_read}
+use Rattle.archive_btree_maps.specs.Maps.{AreEntriesAt}
+use Rattle.archive_btree_maps.proofs.ReadTree.{map_is_read}
 use Rattle.archive_btree_maps.specs.Sets.{set_knows}
 use Rattle.archive_btree_maps.specs.Keys.{key_in, pairs_of, SetIsRead}
 

@@ -7,7 +7,7 @@ use Rattle.std.specs.Ordering.{is_eq}
 use Rattle.std.specs.declared.cmp.Ordering.{Ordering}
 use Rattle.std.specs.declared.cmp.Ordering.TheVariants.{Less, Equal, Greater}
 use Rattle.archive_shape.specs.declared.references.refs.Ref.{Ref}
-use Rattle.archive_btree_walking.specs.Lookups.{IsSameAs}
+use Rattle.archive_btree_maps.specs.Lookups.{IsSameAs}
 use Rattle.archive_btree_maps.specs.StdMaps.{CallsValue, IsPairSame, AnyZip, AreSame, MayCallValue}
 
 equal_is : (o : Ordering) → is_eq o ≡ true → o ≡ Equal

@@ -6,15 +6,15 @@ use Rattle.archive_shape_layout.specs.Shape.{Shape}
 use Rattle.archive_shape_layout.specs.Content.{Names}
 use Rattle.archive_shape.specs.declared.references.refs.Ref.{Ref}
 use Rattle.archive_shape.specs.declared.references.own_seal.OwnSeal.{OwnSeal}
-use Rattle.archive_btree_nodes.specs.BtreeLayout.Reading.{Place}
-use Rattle.archive_btree_nodes.specs.BtreeLayout.Tree.{items}
-use Rattle.archive_btree_nodes.specs.Ranges.{before_key}
-use Rattle.archive_btree_nodes.specs.Walking.{stack_items}
-use Rattle.archive_btree_nodes.specs.declared.searching.stepping.EntryWalk.{EntryWalk}
+use Rattle.archive_btree_layout.specs.Reading.{Place}
+use Rattle.archive_btree_layout.specs.Tree.{items}
+use Rattle.archive_btree_maps.specs.Ranges.{before_key}
+use Rattle.archive_btree_maps.specs.Walking.{stack_items}
+use Rattle.archive_btree_maps.specs.declared.nodes.searching.stepping.EntryWalk.{EntryWalk}
 use Rattle.archive_btree_maps.specs.SealedVisits.{VisitsSealed}
-use Rattle.archive_btree_walking.specs.Walks.{BegunMap, IsWritten, GoesOn}
-use Rattle.archive_btree_walking.proofs.One.{one_map}
-use Rattle.archive_btree_walking.proofs.Sealed.{map_at}
+use Rattle.archive_btree_maps.specs.Walks.{BegunMap, IsWritten, GoesOn}
+use Rattle.archive_btree_maps.proofs.One.{one_map}
+use Rattle.archive_btree_maps.proofs.Sealed.{map_at}
 
 -- ---- a map
 

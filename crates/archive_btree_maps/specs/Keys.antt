@@ -6,8 +6,8 @@ use Rattle.archive_shape_layout.specs.Value.{Value, Values}
 use Rattle.archive_shape_layout.specs.Value.Value.{group}
 use Rattle.archive_shape_layout.specs.Value.Values.{no_values, more_values}
 use Rattle.archive_shape_layout.specs.Content.{Names}
-use Rattle.archive_btree_nodes.specs.BtreeLayout.Reading.{Place}
-use Rattle.archive_btree_nodes.specs.BtreeLayout.Tree.{Tree, items}
+use Rattle.archive_btree_layout.specs.Reading.{Place}
+use Rattle.archive_btree_layout.specs.Tree.{Tree, items}
 use Rattle.archive_shape.specs.Key.{HeldAt}
 use Rattle.archive_forms_laws.specs.Views.{elements_of, head_of}
 use Rattle.archive_btree_maps.specs.Sets.{set_shape, set_knows, IsSetAt}

@@ -2,8 +2,8 @@
 use denote.Ref.{Bor}
 use Rattle.std.specs.Prelude.{ℕ, List}
 use Rattle.archive_shape.specs.declared.references.refs.Ref.{Ref}
-use Rattle.archive_btree_nodes.specs.declared.searching.node.EntryAt.{EntryAt}
-use Rattle.archive_btree_walking.specs.Refs.{ref_at}
+use Rattle.archive_btree_maps.specs.declared.nodes.searching.node.EntryAt.{EntryAt}
+use Rattle.archive_btree_maps.specs.Refs.{ref_at}
 
 module _ {F K V : Type 0} where
   -- the closure may be called with the key and the value of an entry

@@ -4,8 +4,8 @@ use Rattle.std.specs.Prelude.{◌≡◌, ℕ, Bool, true, false, List, [], ◌�
 use Rattle.std.specs.List.{AllZip}
 use Rattle.std.specs.declared.cmp.Ordering.{Ordering}
 use Rattle.archive_shape.specs.declared.references.refs.Ref.{Ref}
-use Rattle.archive_btree_nodes.specs.BtreeLayout.Reading.{Place}
-use Rattle.archive_btree_walking.specs.Lookups.{IsSameAs}
+use Rattle.archive_btree_layout.specs.Reading.{Place}
+use Rattle.archive_btree_maps.specs.Lookups.{IsSameAs}
 
 -- the key at a place is the same as that of a pair, and the value as its value
 abbrev pub IsSameEntry : {Q W : Type 0} → (List ℕ → ℕ → Q → Type 0) → (Q → Q → Ordering) → (List ℕ → ℕ → W → Type 0) → (W → W → Ordering) → List ℕ → Place → Q × W → Type 0

@@ -3,7 +3,9 @@
 #![tactic(auto)]
 
 pub mod map;
+pub mod nodes;
 pub mod set;
+pub mod walking;
 
 pub use map::{
     ArchivedBTreeMap, BTreeMapResolver, InvalidLength, IterSeal, Keys, Range, RangeSeal, Values,

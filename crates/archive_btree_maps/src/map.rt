@@ -12,7 +12,7 @@ mod sealing;
 mod std_map;
 mod walking;
 
-pub use archive_btree_walking::{
+pub use crate::walking::{
     Iter, IterSeal, Keys, Range, RangeSeal, Values, ValuesSeal, map_is_read, one_map,
 };
 /// The error of a leaf that says more entries than fit in a node.

@@ -1,14 +1,14 @@
 -- The values of a search tree's node are as many as the items of the tree that is read there.
 use Rattle.std.proofs.Common.{◌≡◌, ◌∙◌, ℕ, suc, ◌+◌, List, [], ◌∷◌, ◌++◌, length, refl, ap, sym, subst, arith, length-append}
-use Rattle.archive_btree_layout.specs.ShapeLayout.Shape.{Shape, size_of}
-use Rattle.archive_btree_layout.specs.ShapeLayout.Value.{Value, Values, count_values}
-use Rattle.archive_btree_layout.specs.ShapeLayout.Value.Values.{no_values, more_values}
-use Rattle.archive_btree_layout.specs.ShapeLayout.Content.{Names, Part, members, weave, first_values, other_values, children, entries, keys_offset, values_offset, links_offset}
-use Rattle.archive_btree_layout.specs.ShapeLayout.Content.Part.{node, child}
-use Rattle.archive_btree_layout.specs.ShapeLayout.Content.Label.{same, woven}
-use Rattle.archive_btree_layout.specs.ShapeLayout.Holds.{Region, Visit, OpenShared, Holds, HoldAll}
-use Rattle.archive_forms_laws.proofs.ShapeCanonical.Steps.{made_whole, count_parts}
-use Rattle.archive_forms_laws.proofs.ShapeCanonical.Nodes.{count_append, count_other, length-entries, length-children}
+use Rattle.archive_shape_layout.specs.Shape.{Shape, size_of}
+use Rattle.archive_shape_layout.specs.Value.{Value, Values, count_values}
+use Rattle.archive_shape_layout.specs.Value.Values.{no_values, more_values}
+use Rattle.archive_shape_layout.specs.Content.{Names, Part, members, weave, first_values, other_values, children, entries, keys_offset, values_offset, links_offset}
+use Rattle.archive_shape_layout.specs.Content.Part.{node, child}
+use Rattle.archive_shape_layout.specs.Content.Label.{same, woven}
+use Rattle.archive_shape_layout.specs.Holds.{Region, Visit, OpenShared, Holds, HoldAll}
+use Rattle.archive_shape_canonical.proofs.Steps.{made_whole, count_parts}
+use Rattle.archive_shape_canonical.proofs.Nodes.{count_append, count_other, length-entries, length-children}
 use Rattle.archive_btree_layout.specs.Tree.{Tree, Branches, items, items_of}
 use Rattle.archive_btree_layout.specs.Reading.{Place, HasNode, HasBranches, HasChild}
 use Rattle.archive_btree_layout.specs.Reading.HasNode.{has_leaf, has_inner}

@@ -2,7 +2,7 @@
 use Rattle.std.proofs.Common.{◌≡◌, ◌∙◌, ℕ, zero, suc, ◌+◌, ◌-◌, ◌*◌, ◌^◌, ◌<◌, ◌≤◌, min, refl, ap, subst, arith, inl, inr}
 use Rattle.std.proofs.lemmas.Bool.{cases_lt}
 use Rattle.std.proofs.Math.Nat.{pow-succ', pow-zero, one-le-pow, pow-le-pow_right, mul-le-mul_right}
-use Rattle.archive_forms_laws.specs.ShapeCanonical.Packed.{full, levels_for, child_items}
+use Rattle.archive_shape_canonical.specs.Packed.{full, levels_for, child_items}
 use Rattle.archive_btree_spelling.proofs.Levels.{levels_hold, levels_are_least}
 
 -- one level more multiplies a level's width by `most + 1`

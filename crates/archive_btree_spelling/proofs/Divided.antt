@@ -3,7 +3,7 @@ use Rattle.std.proofs.Common.{◌≡◌, ◌∙◌, ℕ, zero, suc, ◌+◌, ◌
 use Rattle.std.specs.Prelude.{⊤}
 use Rattle.std.proofs.lemmas.Bool.{cases_lt}
 use Rattle.std.proofs.Math.Nat.{pow-succ', pow-zero, one-le-pow, mul-le-mul_left}
-use Rattle.archive_forms_laws.specs.ShapeCanonical.Packed.{full, levels_for, child_items}
+use Rattle.archive_shape_canonical.specs.Packed.{full, levels_for, child_items}
 use Rattle.archive_btree_layout.specs.Tree.{Tree, Branches, items, items_of, entries_of}
 use Rattle.archive_btree_layout.specs.Tree.Tree.{absent, leaf, inner}
 use Rattle.archive_btree_layout.specs.Tree.Branches.{greater, lesser}

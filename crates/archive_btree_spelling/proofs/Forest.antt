@@ -2,17 +2,17 @@
 use Rattle.std.proofs.Common.{◌≡◌, ◌∙◌, ℕ, zero, suc, ◌+◌, ◌*◌, ◌^◌, ◌<◌, ◌≤◌, nat_le, cond, Bool, true, false, Option, List, [], ◌∷◌, ◌++◌, length, refl, ap, ap₂, subst, arith, length-append, leb-true}
 use Rattle.std.proofs.lemmas.Bool.Decides.{nat_tests}
 use Rattle.std.proofs.Math.Nat.{pow-zero}
-use Rattle.archive_btree_layout.specs.ShapeLayout.Shape.{Shape}
-use Rattle.archive_btree_layout.specs.ShapeLayout.Value.Value.{group}
-use Rattle.archive_btree_layout.specs.ShapeLayout.Value.Values.{no_values, more_values}
-use Rattle.archive_btree_layout.specs.ShapeLayout.Content.{Names, weave, words_of}
-use Rattle.archive_btree_layout.specs.ShapeLayout.Content.Part.{node}
-use Rattle.archive_btree_layout.specs.ShapeLayout.Holds.{OpenShared}
+use Rattle.archive_shape_layout.specs.Shape.{Shape}
+use Rattle.archive_shape_layout.specs.Value.Value.{group}
+use Rattle.archive_shape_layout.specs.Value.Values.{no_values, more_values}
+use Rattle.archive_shape_layout.specs.Content.{Names, weave, words_of}
+use Rattle.archive_shape_layout.specs.Content.Part.{node}
+use Rattle.archive_shape_layout.specs.Holds.{OpenShared}
 use Rattle.archive_shape_layout.proofs.Framed.{links_fit}
-use Rattle.archive_forms_laws.specs.ShapeCanonical.Settled.{Fit}
-use Rattle.archive_forms_laws.specs.ShapeCanonical.Sharing.{erased}
-use Rattle.archive_forms_laws.specs.ShapeCanonical.Packed.{levels_for, full}
-use Rattle.archive_forms_laws.specs.ArchiveShape.Bytes.{HasBytes}
+use Rattle.archive_shape_canonical.specs.Settled.{Fit}
+use Rattle.archive_shape_canonical.specs.Sharing.{erased}
+use Rattle.archive_shape_canonical.specs.Packed.{levels_for, full}
+use Rattle.archive_shape.specs.Bytes.{HasBytes}
 use Rattle.archive_forms_laws.specs.State.{State, Keys, visits_of, IsConsistent, AllFrom, AreKeyedBy}
 use Rattle.archive_forms_laws.specs.Spelling.{Spelling}
 use Rattle.archive_forms_laws.specs.Spells.{CanonicalPart}

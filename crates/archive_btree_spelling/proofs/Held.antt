@@ -1,18 +1,18 @@
 -- Every part that the root of a canonical archive reaches has a value, with regions that ascend to the end of the
 -- bytes, after visits of values that lie where they were visited. So the tree of a map that it reaches is read.
 use Rattle.std.proofs.Common.{ℕ, List, length, sym, subst, arith}
-use Rattle.archive_btree_layout.specs.ShapeLayout.Shape.Shape.{tree}
-use Rattle.archive_btree_layout.specs.ShapeLayout.Value.{Value, Values}
-use Rattle.archive_btree_layout.specs.ShapeLayout.Content.{Names, Part}
-use Rattle.archive_btree_layout.specs.ShapeLayout.Content.Part.{at}
-use Rattle.archive_btree_layout.specs.ShapeLayout.Holds.{Region, Visit, OpenShared, Holds, HoldAll, end_after}
-use Rattle.archive_btree_layout.specs.ShapeLayout.Holds.Holds.{holds_plain, holds_claimed, holds_first, holds_later, holds_back}
-use Rattle.archive_btree_layout.specs.ShapeLayout.Holds.HoldAll.{holds_none, holds_more}
-use Rattle.archive_btree_layout.specs.ShapeLayout.Visited.{ClaimedAfter}
-use Rattle.archive_btree_layout.proofs.ShapeLayout.Visited.{claimed_raised, claimed_front, claimed_later, claimed_inside, claimed_first}
-use Rattle.archive_forms_laws.specs.ShapeCanonical.Settled.{Fit}
-use Rattle.archive_forms_laws.specs.ShapeCanonical.Canonical.{IsCanonical, AreCanonical, end_of}
-use Rattle.archive_forms_laws.proofs.ShapeCanonical.Reaching.{All, AllIn, Met, none_met, plain_all, claimed_all, counted_all, more_met, none_reached, more_reached}
+use Rattle.archive_shape_layout.specs.Shape.Shape.{tree}
+use Rattle.archive_shape_layout.specs.Value.{Value, Values}
+use Rattle.archive_shape_layout.specs.Content.{Names, Part}
+use Rattle.archive_shape_layout.specs.Content.Part.{at}
+use Rattle.archive_shape_layout.specs.Holds.{Region, Visit, OpenShared, Holds, HoldAll, end_after}
+use Rattle.archive_shape_layout.specs.Holds.Holds.{holds_plain, holds_claimed, holds_first, holds_later, holds_back}
+use Rattle.archive_shape_layout.specs.Holds.HoldAll.{holds_none, holds_more}
+use Rattle.archive_shape_layout.specs.Visited.{ClaimedAfter}
+use Rattle.archive_shape_layout.proofs.Visited.{claimed_raised, claimed_front, claimed_later, claimed_inside, claimed_first}
+use Rattle.archive_shape_canonical.specs.Settled.{Fit}
+use Rattle.archive_shape_canonical.specs.Canonical.{IsCanonical, AreCanonical, end_of}
+use Rattle.archive_shape_canonical.proofs.Reaching.{All, AllIn, Met, none_met, plain_all, claimed_all, counted_all, more_met, none_reached, more_reached}
 use Rattle.archive_btree_layout.proofs.Mapped.{tree_is_read}
 use Rattle.archive_btree_spelling.specs.PackingLaws.{WrittenIsRead}
 

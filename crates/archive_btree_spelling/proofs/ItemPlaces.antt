@@ -1,18 +1,18 @@
 -- The numbers of a tree's items, as it is read from bytes: those of its entries, and of its children's items.
 use Rattle.std.proofs.Common.{◌≡◌, ◌∙◌, ℕ, zero, suc, ◌+◌, ◌<◌, List, [], ◌∷◌, ◌++◌, length, Option, Some, None, refl, ap, sym, subst, arith}
 use Rattle.std.specs.Prelude.{⊤}
-use Rattle.archive_btree_layout.specs.ShapeLayout.Shape.{Shape, size_of}
-use Rattle.archive_btree_layout.specs.ShapeLayout.Shape.Shape.{tree}
-use Rattle.archive_btree_layout.specs.ShapeLayout.Value.{Value, Values, count_values}
-use Rattle.archive_btree_layout.specs.ShapeLayout.Value.Value.{group}
-use Rattle.archive_btree_layout.specs.ShapeLayout.Value.Values.{no_values, more_values}
-use Rattle.archive_btree_layout.specs.ShapeLayout.Content.{Names, Part, Span, Label, content_of, members, first_values, other_values, children, entries, keys_offset, values_offset}
-use Rattle.archive_btree_layout.specs.ShapeLayout.Content.Part.{at, node, child, entry}
-use Rattle.archive_btree_layout.specs.ShapeLayout.Content.Label.{whole, woven}
-use Rattle.archive_btree_layout.specs.ShapeLayout.Content.Content.{plain, claimed}
-use Rattle.archive_btree_layout.specs.ShapeLayout.Holds.{Region, Visit, OpenShared, Holds, HoldAll}
-use Rattle.archive_btree_layout.specs.ShapeLayout.Holds.HoldAll.{holds_none, holds_more}
-use Rattle.archive_btree_layout.specs.ShapeLayout.Path.{child_place, entry_place, beyond}
+use Rattle.archive_shape_layout.specs.Shape.{Shape, size_of}
+use Rattle.archive_shape_layout.specs.Shape.Shape.{tree}
+use Rattle.archive_shape_layout.specs.Value.{Value, Values, count_values}
+use Rattle.archive_shape_layout.specs.Value.Value.{group}
+use Rattle.archive_shape_layout.specs.Value.Values.{no_values, more_values}
+use Rattle.archive_shape_layout.specs.Content.{Names, Part, Span, Label, content_of, members, first_values, other_values, children, entries, keys_offset, values_offset}
+use Rattle.archive_shape_layout.specs.Content.Part.{at, node, child, entry}
+use Rattle.archive_shape_layout.specs.Content.Label.{whole, woven}
+use Rattle.archive_shape_layout.specs.Content.Content.{plain, claimed}
+use Rattle.archive_shape_layout.specs.Holds.{Region, Visit, OpenShared, Holds, HoldAll}
+use Rattle.archive_shape_layout.specs.Holds.HoldAll.{holds_none, holds_more}
+use Rattle.archive_shape_layout.specs.Path.{child_place, entry_place, beyond}
 use Rattle.archive_btree_layout.specs.Tree.{Tree, Branches, items, items_of}
 use Rattle.archive_btree_layout.specs.Reading.{Place, places, HasNode, HasBranches, HasChild}
 use Rattle.archive_btree_layout.specs.Reading.HasNode.{has_leaf, has_inner}

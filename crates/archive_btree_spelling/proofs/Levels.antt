@@ -2,7 +2,7 @@
 use Rattle.std.proofs.Common.{◌≡◌, ◌∙◌, ℕ, zero, suc, ◌+◌, ◌-◌, ◌*◌, ◌^◌, ◌<◌, ◌≤◌, min, Bool, true, false, cond, nat_le, refl, ap, sym, subst, arith, ◌⊎◌, inl, inr, leb-true}
 use Rattle.std.proofs.lemmas.Bool.Decides.{nat_tests}
 use Rattle.std.proofs.Math.Nat.{pow-succ', pow-zero, one-le-pow, pow-le-pow_left}
-use Rattle.archive_forms_laws.specs.ShapeCanonical.Packed.{full, levels_from, levels_for, child_items}
+use Rattle.archive_shape_canonical.specs.Packed.{full, levels_from, levels_for, child_items}
 
 pub above : (n m : ℕ) → nat_le n m ≡ false → m < n
 above n m e = grind (arith, nat_tests)

@@ -1,4 +1,3 @@
-pub mod BtreeLayout
 pub mod Counted
 pub mod Counts
 pub mod Divided

@@ -2,19 +2,19 @@
 use Rattle.std.proofs.Common.{◌≡◌, ◌∙◌, ℕ, zero, suc, ◌+◌, ◌<◌, ◌≤◌, ◌==◌, nat_le, Bool, true, false, List, [], ◌∷◌, ◌++◌, Some, refl, ap, sym, subst, arith, add-zero, eqb-true, eq-eqb}
 use Rattle.std.specs.Prelude.{slice_index}
 use Rattle.std.proofs.lemmas.Bool.Decides.{nat_tests}
-use Rattle.archive_btree_layout.specs.ShapeLayout.Bytes.{window, word_at, target_from}
-use Rattle.archive_btree_layout.specs.ShapeLayout.Shape.{Shape}
-use Rattle.archive_btree_layout.specs.ShapeLayout.Shape.Shape.{tree}
-use Rattle.archive_btree_layout.specs.ShapeLayout.Value.{Value, Values}
-use Rattle.archive_btree_layout.specs.ShapeLayout.Value.Values.{more_values}
-use Rattle.archive_btree_layout.specs.ShapeLayout.Content.{Names, Part, Span, Label, made, content_of, node_content, child_content, choose, following, children, entries, keys_offset, values_offset, links_offset, link_node_size, node_span, words_of}
-use Rattle.archive_btree_layout.specs.ShapeLayout.Content.Part.{at, node, child}
-use Rattle.archive_btree_layout.specs.ShapeLayout.Content.Label.{same, whole, woven, total}
-use Rattle.archive_btree_layout.specs.ShapeLayout.Content.Content.{plain, claimed, illegal}
-use Rattle.archive_btree_layout.specs.ShapeLayout.Holds.{Region, Visit, OpenShared, Holds, HoldAll}
-use Rattle.archive_btree_layout.specs.ShapeLayout.Holds.Holds.{holds_plain, holds_claimed, holds_first, holds_later, holds_back}
-use Rattle.archive_btree_layout.specs.ShapeLayout.Holds.HoldAll.{holds_more}
-use Rattle.archive_btree_layout.proofs.ShapeLayout.Framed.{links_fit}
+use Rattle.archive_shape_layout.specs.Bytes.{window, word_at, target_from}
+use Rattle.archive_shape_layout.specs.Shape.{Shape}
+use Rattle.archive_shape_layout.specs.Shape.Shape.{tree}
+use Rattle.archive_shape_layout.specs.Value.{Value, Values}
+use Rattle.archive_shape_layout.specs.Value.Values.{more_values}
+use Rattle.archive_shape_layout.specs.Content.{Names, Part, Span, Label, made, content_of, node_content, child_content, choose, following, children, entries, keys_offset, values_offset, links_offset, link_node_size, node_span, words_of}
+use Rattle.archive_shape_layout.specs.Content.Part.{at, node, child}
+use Rattle.archive_shape_layout.specs.Content.Label.{same, whole, woven, total}
+use Rattle.archive_shape_layout.specs.Content.Content.{plain, claimed, illegal}
+use Rattle.archive_shape_layout.specs.Holds.{Region, Visit, OpenShared, Holds, HoldAll}
+use Rattle.archive_shape_layout.specs.Holds.Holds.{holds_plain, holds_claimed, holds_first, holds_later, holds_back}
+use Rattle.archive_shape_layout.specs.Holds.HoldAll.{holds_more}
+use Rattle.archive_shape_layout.proofs.Framed.{links_fit}
 use Rattle.archive_btree_layout.specs.Tree.{Tree}
 use Rattle.archive_btree_layout.specs.Reading.{Place, HasNode}
 use Rattle.archive_btree_layout.specs.Reading.HasNode.{has_leaf, has_inner}
@@ -22,7 +22,7 @@ use Rattle.archive_btree_layout.proofs.Contents.{kind_of}
 use Rattle.archive_btree_spelling.proofs.Trees.{child_leads}
 use Rattle.archive_btree_spelling.proofs.Nodes.{leaf_chosen, inner_chosen}
 use Rattle.archive_btree_spelling.proofs.Maps.{rooted_content}
-use Rattle.archive_btree_layout.proofs.ShapeLayout.Windows.{word_of, word_within}
+use Rattle.archive_shape_layout.proofs.Windows.{word_of, word_within}
 
 module _ (names : Names) (bytes : List ℕ) where
   -- parts have values, of which a label makes one

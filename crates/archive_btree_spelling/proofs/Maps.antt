@@ -1,26 +1,26 @@
 -- A map is read as it is written: the law of maps is that of each key and each value.
 use Rattle.std.proofs.Common.{◌≡◌, ◌∙◌, ℕ, ◌+◌, ◌<◌, ◌≤◌, ◌==◌, cond, Bool, true, false, Option, Some, None, List, [], ◌∷◌, ◌++◌, length, refl, ap, sym, subst, arith, inl, inr, add-zero, eq-eqb, eqb-true}
 use Rattle.std.specs.Int.{w32, to_le_bytes}
-use Rattle.archive_btree_layout.specs.ShapeLayout.Bytes.{window, word_at, target_from}
-use Rattle.archive_btree_layout.specs.ShapeLayout.Shape.{Shape}
-use Rattle.archive_btree_layout.specs.ShapeLayout.Shape.Shape.{tree}
-use Rattle.archive_btree_layout.specs.ShapeLayout.Value.{Value, Values, count_values}
-use Rattle.archive_btree_layout.specs.ShapeLayout.Value.Value.{group}
-use Rattle.archive_btree_layout.specs.ShapeLayout.Value.Values.{no_values, more_values}
-use Rattle.archive_btree_layout.specs.ShapeLayout.Content.{Names, made, members, choose, following, content_of, shape_content}
-use Rattle.archive_btree_layout.specs.ShapeLayout.Content.Part.{at, node}
-use Rattle.archive_btree_layout.specs.ShapeLayout.Content.Label.{whole, total}
-use Rattle.archive_btree_layout.specs.ShapeLayout.Content.Content.{plain}
-use Rattle.archive_btree_layout.specs.ShapeLayout.Holds.{OpenShared, Ascends}
-use Rattle.archive_btree_layout.specs.ShapeLayout.Holds.Holds.{holds_plain}
-use Rattle.archive_btree_layout.specs.ShapeLayout.Holds.HoldAll.{holds_none}
-use Rattle.archive_forms_laws.specs.ShapeCanonical.Settled.{Fit, HasItems}
-use Rattle.archive_forms_laws.specs.ShapeCanonical.Seen.{by_keys}
-use Rattle.archive_forms_laws.specs.ShapeCanonical.Packed.{levels_for}
+use Rattle.archive_shape_layout.specs.Bytes.{window, word_at, target_from}
+use Rattle.archive_shape_layout.specs.Shape.{Shape}
+use Rattle.archive_shape_layout.specs.Shape.Shape.{tree}
+use Rattle.archive_shape_layout.specs.Value.{Value, Values, count_values}
+use Rattle.archive_shape_layout.specs.Value.Value.{group}
+use Rattle.archive_shape_layout.specs.Value.Values.{no_values, more_values}
+use Rattle.archive_shape_layout.specs.Content.{Names, made, members, choose, following, content_of, shape_content}
+use Rattle.archive_shape_layout.specs.Content.Part.{at, node}
+use Rattle.archive_shape_layout.specs.Content.Label.{whole, total}
+use Rattle.archive_shape_layout.specs.Content.Content.{plain}
+use Rattle.archive_shape_layout.specs.Holds.{OpenShared, Ascends}
+use Rattle.archive_shape_layout.specs.Holds.Holds.{holds_plain}
+use Rattle.archive_shape_layout.specs.Holds.HoldAll.{holds_none}
+use Rattle.archive_shape_canonical.specs.Settled.{Fit, HasItems}
+use Rattle.archive_shape_canonical.specs.Seen.{by_keys}
+use Rattle.archive_shape_canonical.specs.Packed.{levels_for}
 use Rattle.archive_shape_canonical.proofs.Cleanness.{clean_by}
-use Rattle.archive_forms_laws.specs.ArchiveShape.Bytes.{HasBytes}
+use Rattle.archive_shape.specs.Bytes.{HasBytes}
 use Rattle.archive_shape.proofs.Pieces.{stands_left, stands_right, stands_word}
-use Rattle.archive_forms_laws.specs.ShapeWriting.declared.error.Error.{Error}
+use Rattle.archive_shape_layout.specs.declared.error.Error.{Error}
 use Rattle.archive_forms_laws.specs.State.{State, Keys, visits_of, IsConsistent, AllFrom, AreKeyedBy}
 use Rattle.archive_forms_laws.specs.Spelling.{Spelling, state_after}
 use Rattle.archive_forms_laws.specs.Spells.{CanonicalPart, SpellsAt, Spells}

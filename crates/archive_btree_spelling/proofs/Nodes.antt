@@ -5,22 +5,22 @@ use Rattle.std.specs.Prelude.{slice_index}
 use Rattle.std.specs.Int.{w32, to_le_bytes}
 use Rattle.std.proofs.lemmas.Bool.Decides.{nat_tests}
 use Rattle.std.proofs.Math.Nat.{mul-le-mul_right}
-use Rattle.archive_btree_layout.specs.ShapeLayout.Bytes.{window, word_at}
-use Rattle.archive_btree_layout.specs.ShapeLayout.Shape.{Shape, size_of, align_of}
-use Rattle.archive_btree_layout.specs.ShapeLayout.Value.{append_values}
-use Rattle.archive_btree_layout.specs.ShapeLayout.Value.Value.{group}
-use Rattle.archive_btree_layout.specs.ShapeLayout.Content.{Names, made, weave, choose, content_of, node_content, node_span, words_of, entries, children, keys_offset, values_offset, links_offset, link_node_align, link_node_size}
-use Rattle.archive_btree_layout.specs.ShapeLayout.Content.Part.{node}
-use Rattle.archive_btree_layout.specs.ShapeLayout.Content.Label.{whole, woven}
-use Rattle.archive_btree_layout.specs.ShapeLayout.Content.Content.{claimed, illegal}
-use Rattle.archive_btree_layout.specs.ShapeLayout.Holds.{OpenShared}
+use Rattle.archive_shape_layout.specs.Bytes.{window, word_at}
+use Rattle.archive_shape_layout.specs.Shape.{Shape, size_of, align_of}
+use Rattle.archive_shape_layout.specs.Value.{append_values}
+use Rattle.archive_shape_layout.specs.Value.Value.{group}
+use Rattle.archive_shape_layout.specs.Content.{Names, made, weave, choose, content_of, node_content, node_span, words_of, entries, children, keys_offset, values_offset, links_offset, link_node_align, link_node_size}
+use Rattle.archive_shape_layout.specs.Content.Part.{node}
+use Rattle.archive_shape_layout.specs.Content.Label.{whole, woven}
+use Rattle.archive_shape_layout.specs.Content.Content.{claimed, illegal}
+use Rattle.archive_shape_layout.specs.Holds.{OpenShared}
 use Rattle.archive_shape_layout.proofs.Framed.{le_align_up, keys_fit, values_fit, links_fit}
-use Rattle.archive_forms_laws.specs.ShapeCanonical.Settled.{Fit, IsSettled}
-use Rattle.archive_forms_laws.specs.ShapeCanonical.Packed.{IsPacked}
-use Rattle.archive_forms_laws.specs.ShapeCanonical.Seen.{all_blank}
-use Rattle.archive_forms_laws.specs.ShapeCanonical.Clean.{IsIn, InFieldOfNode}
+use Rattle.archive_shape_canonical.specs.Settled.{Fit, IsSettled}
+use Rattle.archive_shape_canonical.specs.Packed.{IsPacked}
+use Rattle.archive_shape_canonical.specs.Seen.{all_blank}
+use Rattle.archive_shape_canonical.specs.Clean.{IsIn, InFieldOfNode}
 use Rattle.archive_shape_canonical.proofs.Cleanness.{clean_by}
-use Rattle.archive_forms_laws.specs.ArchiveShape.Bytes.{HasBytes, zeros}
+use Rattle.archive_shape.specs.Bytes.{HasBytes, zeros}
 use Rattle.archive_shape.proofs.Pieces.{stands_left, stands_right, stands_byte, stands_word}
 use Rattle.archive_forms_laws.specs.State.{State, Keys, visits_of, IsConsistent, AllFrom, AreKeyedBy}
 use Rattle.archive_forms_laws.specs.Spelling.{Spelling, state_after}

@@ -1,14 +1,14 @@
 -- The tree of a map in a canonical archive is packed, and no tree with the same number of items is less.
 use Rattle.std.proofs.Common.{ℕ, suc, ◌+◌, List, [], ◌∷◌, refl, sym, subst, arith}
-use Rattle.archive_btree_layout.specs.ShapeLayout.Shape.{Shape, size_of}
-use Rattle.archive_btree_layout.specs.ShapeLayout.Shape.Shape.{tree}
-use Rattle.archive_btree_layout.specs.ShapeLayout.Content.{Part, keys_offset, values_offset, links_offset}
-use Rattle.archive_btree_layout.specs.ShapeLayout.Content.Part.{at, node}
-use Rattle.archive_forms_laws.specs.ShapeCanonical.Settled.{HasItems}
-use Rattle.archive_forms_laws.specs.ShapeCanonical.Everywhere.{Reaches, reaches_here, reaches_plain, reaches_first, IsAsWritten}
-use Rattle.archive_forms_laws.proofs.ShapeCanonical.Choosing.{settled_chosen}
-use Rattle.archive_forms_laws.proofs.ShapeCanonical.Reaching.{reaches_on}
-use Rattle.archive_forms_laws.proofs.ShapeCanonical.Everywhere.{written_everywhere_law}
+use Rattle.archive_shape_layout.specs.Shape.{Shape, size_of}
+use Rattle.archive_shape_layout.specs.Shape.Shape.{tree}
+use Rattle.archive_shape_layout.specs.Content.{Part, keys_offset, values_offset, links_offset}
+use Rattle.archive_shape_layout.specs.Content.Part.{at, node}
+use Rattle.archive_shape_canonical.specs.Settled.{HasItems}
+use Rattle.archive_shape_canonical.specs.Everywhere.{Reaches, reaches_here, reaches_plain, reaches_first, IsAsWritten}
+use Rattle.archive_shape_canonical.proofs.Choosing.{settled_chosen}
+use Rattle.archive_shape_canonical.proofs.Reaching.{reaches_on}
+use Rattle.archive_shape_canonical.proofs.Everywhere.{written_everywhere_law}
 use Rattle.archive_btree_layout.specs.Tree.{Tree, Branches}
 use Rattle.archive_btree_layout.specs.Packed.{IsBounded, AreBounded}
 use Rattle.archive_btree_layout.specs.Reading.{Place, HasNode, HasBranches, HasChild}

@@ -3,26 +3,26 @@
 use Rattle.std.proofs.Common.{◌≡◌, ◌∙◌, ℕ, zero, suc, ◌+◌, ◌-◌, ◌<◌, nat_lt, cond, ◌==◌, Bool, true, false, List, [], ◌∷◌, ◌++◌, drop, slice_index, Option, Some, None, ◌⊎◌, inl, inr, ⊎_elim, refl, ap, sym, subst, arith}
 use Rattle.std.specs.Prelude.{⊤}
 use Rattle.std.proofs.lemmas.Bool.{lt-ltb, le-ltb}
-use Rattle.archive_btree_layout.specs.ShapeLayout.Bytes.{window, word_at, target_from}
-use Rattle.archive_btree_layout.specs.ShapeLayout.Shape.{Shape, Pointee, size_of}
-use Rattle.archive_btree_layout.specs.ShapeLayout.Shape.Shape.{tree}
-use Rattle.archive_btree_layout.specs.ShapeLayout.Value.{Value, Values, append_values, count_values}
-use Rattle.archive_btree_layout.specs.ShapeLayout.Value.Value.{group}
-use Rattle.archive_btree_layout.specs.ShapeLayout.Value.Values.{no_values, more_values}
-use Rattle.archive_btree_layout.specs.ShapeLayout.Content.{Names, Part, Span, Label, content_of, shape_content, node_content, child_content, choose, following, made, members, weave, first_values, other_values, children, entries, keys_offset, values_offset, links_offset}
-use Rattle.archive_btree_layout.specs.ShapeLayout.Content.Part.{at, node, child, entry}
-use Rattle.archive_btree_layout.specs.ShapeLayout.Content.Label.{same, whole, woven, total}
-use Rattle.archive_btree_layout.specs.ShapeLayout.Content.Content.{illegal, plain, claimed, counting}
-use Rattle.archive_btree_layout.specs.ShapeLayout.Holds.{Region, Visit, OpenShared, Holds, HoldAll}
-use Rattle.archive_btree_layout.specs.ShapeLayout.Holds.Holds.{holds_plain, holds_claimed, holds_first, holds_later, holds_back}
-use Rattle.archive_btree_layout.specs.ShapeLayout.Holds.HoldAll.{holds_none, holds_more}
-use Rattle.archive_btree_layout.specs.ShapeLayout.Path.{value_in, child_place, entry_place, beyond, in_child, in_entry, through, StandsIn}
-use Rattle.archive_btree_layout.specs.ShapeLayout.Path.Stands.{stands_plain, stands_claimed}
-use Rattle.archive_btree_layout.specs.ShapeLayout.Path.StandsIn.{stands_first, stands_later}
-use Rattle.archive_forms_laws.specs.ShapeCanonical.Laws.{AvoidsItemKey, AvoidsKey, AvoidKeys, AvoidingStands}
+use Rattle.archive_shape_layout.specs.Bytes.{window, word_at, target_from}
+use Rattle.archive_shape_layout.specs.Shape.{Shape, Pointee, size_of}
+use Rattle.archive_shape_layout.specs.Shape.Shape.{tree}
+use Rattle.archive_shape_layout.specs.Value.{Value, Values, append_values, count_values}
+use Rattle.archive_shape_layout.specs.Value.Value.{group}
+use Rattle.archive_shape_layout.specs.Value.Values.{no_values, more_values}
+use Rattle.archive_shape_layout.specs.Content.{Names, Part, Span, Label, content_of, shape_content, node_content, child_content, choose, following, made, members, weave, first_values, other_values, children, entries, keys_offset, values_offset, links_offset}
+use Rattle.archive_shape_layout.specs.Content.Part.{at, node, child, entry}
+use Rattle.archive_shape_layout.specs.Content.Label.{same, whole, woven, total}
+use Rattle.archive_shape_layout.specs.Content.Content.{illegal, plain, claimed, counting}
+use Rattle.archive_shape_layout.specs.Holds.{Region, Visit, OpenShared, Holds, HoldAll}
+use Rattle.archive_shape_layout.specs.Holds.Holds.{holds_plain, holds_claimed, holds_first, holds_later, holds_back}
+use Rattle.archive_shape_layout.specs.Holds.HoldAll.{holds_none, holds_more}
+use Rattle.archive_shape_layout.specs.Path.{value_in, child_place, entry_place, beyond, in_child, in_entry, through, StandsIn}
+use Rattle.archive_shape_layout.specs.Path.Stands.{stands_plain, stands_claimed}
+use Rattle.archive_shape_layout.specs.Path.StandsIn.{stands_first, stands_later}
+use Rattle.archive_shape_canonical.specs.Laws.{AvoidsItemKey, AvoidsKey, AvoidKeys, AvoidingStands}
 use Rattle.archive_btree_layout.specs.Tree.{Tree, items}
 use Rattle.archive_btree_layout.specs.Reading.{Place, HasNode, HasChild}
-use Rattle.archive_btree_layout.proofs.ShapeLayout.Paths.{below_count}
+use Rattle.archive_shape_layout.proofs.Paths.{below_count}
 use Rattle.archive_btree_layout.proofs.Contents.{IsPlain, IsClaimed, node_is_claimed, child_is_plain, pick}
 use Rattle.archive_btree_layout.proofs.Paired.{whole_is}
 use Rattle.archive_btree_layout.proofs.Held.{woven_is}

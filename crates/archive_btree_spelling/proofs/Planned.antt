@@ -1,15 +1,15 @@
 -- The plans of a search tree's nodes, by the items of each node.
 use Rattle.std.proofs.Common.{◌≡◌, ◌∙◌, ℕ, zero, suc, ◌+◌, ◌<◌, ◌≤◌, List, [], ◌∷◌, ◌++◌, length, refl, ap, length-append, ap₂, sym, subst, arith}
-use Rattle.archive_btree_layout.specs.ShapeLayout.Shape.{Shape, size_of}
-use Rattle.archive_btree_layout.specs.ShapeLayout.Value.{Value, Values, append_values, count_values}
-use Rattle.archive_btree_layout.specs.ShapeLayout.Value.Value.{group}
-use Rattle.archive_btree_layout.specs.ShapeLayout.Value.Values.{no_values, more_values}
-use Rattle.archive_btree_layout.specs.ShapeLayout.Content.{Names, Part, weave, first_values, other_values, children, entries, words_of, keys_offset, values_offset, links_offset, link_node_align, link_node_size}
-use Rattle.archive_forms_laws.specs.ShapeCanonical.Packed.{levels_for, ArePacked}
-use Rattle.archive_forms_laws.specs.ShapeCanonical.Settled.{Fit}
-use Rattle.archive_forms_laws.specs.ShapeCanonical.Sharing.{erased, all_erased}
-use Rattle.archive_forms_laws.specs.ShapeCanonical.Plan.{Target, Plan, parts, leads, Plans, no_plans, more_plans, whole_target, HasPlan, NodePlan, plan_leaf_node, plan_inner_node, HavePlans, plans_none, plans_at, plans_entry, plans_no_child, plans_child}
-use Rattle.archive_forms_laws.proofs.ShapeCanonical.Nodes.{count_other, length-entries, length-children}
+use Rattle.archive_shape_layout.specs.Shape.{Shape, size_of}
+use Rattle.archive_shape_layout.specs.Value.{Value, Values, append_values, count_values}
+use Rattle.archive_shape_layout.specs.Value.Value.{group}
+use Rattle.archive_shape_layout.specs.Value.Values.{no_values, more_values}
+use Rattle.archive_shape_layout.specs.Content.{Names, Part, weave, first_values, other_values, children, entries, words_of, keys_offset, values_offset, links_offset, link_node_align, link_node_size}
+use Rattle.archive_shape_canonical.specs.Packed.{levels_for, ArePacked}
+use Rattle.archive_shape_canonical.specs.Settled.{Fit}
+use Rattle.archive_shape_canonical.specs.Sharing.{erased, all_erased}
+use Rattle.archive_shape_canonical.specs.Plan.{Target, Plan, parts, leads, Plans, no_plans, more_plans, whole_target, HasPlan, NodePlan, plan_leaf_node, plan_inner_node, HavePlans, plans_none, plans_at, plans_entry, plans_no_child, plans_child}
+use Rattle.archive_shape_canonical.proofs.Nodes.{count_other, length-entries, length-children}
 use Rattle.archive_btree_spelling.specs.Parted.{Parted, shares, between, parted}
 use Rattle.archive_btree_spelling.proofs.Shares.{IsWoven, AreShares}
 use Rattle.archive_btree_spelling.proofs.Weaving.{first_append, other_append}

@@ -1,18 +1,18 @@
 -- A tree that is read where the root of a canonical archive reaches a node has below each pointer the same number of
 -- items as a packed tree.
 use Rattle.std.proofs.Common.{◌≡◌, ◌∙◌, ℕ, suc, ◌+◌, ◌<◌, ◌≤◌, List, [], ◌∷◌, ◌++◌, length, refl, ap, sym, subst, arith}
-use Rattle.archive_btree_layout.specs.ShapeLayout.Shape.{Shape, size_of}
-use Rattle.archive_btree_layout.specs.ShapeLayout.Value.{Value, Values, count_values}
-use Rattle.archive_btree_layout.specs.ShapeLayout.Value.Value.{natural, integer, boolean, string, group, chosen, counted, back}
-use Rattle.archive_btree_layout.specs.ShapeLayout.Value.Values.{more_values}
-use Rattle.archive_btree_layout.specs.ShapeLayout.Content.{Names, Part, members, weave, first_values, other_values, children, entries, keys_offset, values_offset, links_offset}
-use Rattle.archive_btree_layout.specs.ShapeLayout.Content.Part.{node, child}
-use Rattle.archive_btree_layout.specs.ShapeLayout.Holds.{Region, Visit, OpenShared, HoldAll}
-use Rattle.archive_forms_laws.specs.ShapeCanonical.Settled.{Fit, HasItems}
-use Rattle.archive_forms_laws.specs.ShapeCanonical.Packed.{IsPacked, ArePacked, child_items}
-use Rattle.archive_forms_laws.specs.ShapeCanonical.Everywhere.{reaches_here, reaches_plain, reaches_claimed, reaches_first, reaches_later, IsAsWritten}
-use Rattle.archive_forms_laws.proofs.ShapeCanonical.Choosing.{settled_chosen}
-use Rattle.archive_forms_laws.proofs.ShapeCanonical.Reaching.{All, AllIn}
+use Rattle.archive_shape_layout.specs.Shape.{Shape, size_of}
+use Rattle.archive_shape_layout.specs.Value.{Value, Values, count_values}
+use Rattle.archive_shape_layout.specs.Value.Value.{natural, integer, boolean, string, group, chosen, counted, back}
+use Rattle.archive_shape_layout.specs.Value.Values.{more_values}
+use Rattle.archive_shape_layout.specs.Content.{Names, Part, members, weave, first_values, other_values, children, entries, keys_offset, values_offset, links_offset}
+use Rattle.archive_shape_layout.specs.Content.Part.{node, child}
+use Rattle.archive_shape_layout.specs.Holds.{Region, Visit, OpenShared, HoldAll}
+use Rattle.archive_shape_canonical.specs.Settled.{Fit, HasItems}
+use Rattle.archive_shape_canonical.specs.Packed.{IsPacked, ArePacked, child_items}
+use Rattle.archive_shape_canonical.specs.Everywhere.{reaches_here, reaches_plain, reaches_claimed, reaches_first, reaches_later, IsAsWritten}
+use Rattle.archive_shape_canonical.proofs.Choosing.{settled_chosen}
+use Rattle.archive_shape_canonical.proofs.Reaching.{All, AllIn}
 use Rattle.archive_btree_layout.specs.Tree.{Tree, Branches, items, items_of, entries_of}
 use Rattle.archive_btree_layout.specs.Reading.{Place, places, HasNode, HasBranches, HasChild}
 use Rattle.archive_btree_layout.specs.Reading.HasNode.{has_leaf, has_inner}

@@ -2,14 +2,14 @@
 use Rattle.std.proofs.Common.{ℕ, ◌<◌, ◌^◌, List, [], ◌∷◌, None, refl, arith}
 use Rattle.std.specs.Int.{w32, to_le_bytes}
 use Rattle.std.proofs.lemmas.Int.{ints}
-use Rattle.archive_btree_layout.specs.ShapeLayout.Bytes.{align_up}
-use Rattle.archive_btree_layout.specs.ShapeLayout.Value.Value.{natural}
-use Rattle.archive_btree_layout.specs.ShapeLayout.Content.{shape_content, number_value, keys_offset, values_offset, node_size, links_offset, link_node_align, link_node_size}
-use Rattle.archive_forms_laws.specs.ShapeCanonical.Settled.{Fit}
+use Rattle.archive_shape_layout.specs.Bytes.{align_up}
+use Rattle.archive_shape_layout.specs.Value.Value.{natural}
+use Rattle.archive_shape_layout.specs.Content.{shape_content, number_value, keys_offset, values_offset, node_size, links_offset, link_node_align, link_node_size}
+use Rattle.archive_shape_canonical.specs.Settled.{Fit}
 use Rattle.archive_forms_laws.specs.State.{Keys, AreOneToOne, initial}
 use Rattle.archive_forms_laws.specs.Spells.{Spells}
 use Rattle.archive_forms_laws.specs.Regions.{region_fits, all_suit}
-use Rattle.archive_forms_laws.specs.ArchiveShape.Offsets.{FitsOffset}
+use Rattle.archive_shape.specs.Offsets.{FitsOffset}
 use Rattle.archive_forms_laws.specs.SpellingLaws.{KnowsAll}
 use Rattle.archive_forms_laws.proofs.Gaps.{bytes_word}
 use Rattle.archive_forms_laws.proofs.Leaves.{leaf_spells}

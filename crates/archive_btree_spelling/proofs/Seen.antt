@@ -4,17 +4,17 @@ use Rattle.std.proofs.Common.{◌≡◌, ◌∙◌, ℕ, zero, suc, ◌+◌, ◌
 use Rattle.std.specs.Int.{w32, to_le_bytes}
 use Rattle.std.specs.List.{take-map, drop-map}
 use Rattle.std.proofs.lemmas.List.{length-map, map-append}
-use Rattle.archive_btree_layout.specs.ShapeLayout.Bytes.{align_up}
-use Rattle.archive_btree_layout.specs.ShapeLayout.Shape.{Shape, size_of}
-use Rattle.archive_btree_layout.specs.ShapeLayout.Value.{Values}
-use Rattle.archive_btree_layout.specs.ShapeLayout.Value.Value.{group}
-use Rattle.archive_btree_layout.specs.ShapeLayout.Value.Values.{more_values}
-use Rattle.archive_btree_layout.specs.ShapeLayout.Content.{words_of, keys_offset, values_offset, links_offset, link_node_align, link_node_size}
-use Rattle.archive_forms_laws.specs.ShapeCanonical.Packed.{child_items, levels_for}
-use Rattle.archive_forms_laws.specs.ShapeCanonical.Settled.{Fit}
-use Rattle.archive_forms_laws.specs.ArchiveShape.Bytes.{zeros}
-use Rattle.archive_forms_laws.specs.ShapeWriting.declared.error.Error.{Error}
-use Rattle.archive_forms_laws.specs.ShapeWriting.declared.error.Error.TheVariants.{LengthTooLarge, PositionTooLarge}
+use Rattle.archive_shape_layout.specs.Bytes.{align_up}
+use Rattle.archive_shape_layout.specs.Shape.{Shape, size_of}
+use Rattle.archive_shape_layout.specs.Value.{Values}
+use Rattle.archive_shape_layout.specs.Value.Value.{group}
+use Rattle.archive_shape_layout.specs.Value.Values.{more_values}
+use Rattle.archive_shape_layout.specs.Content.{words_of, keys_offset, values_offset, links_offset, link_node_align, link_node_size}
+use Rattle.archive_shape_canonical.specs.Packed.{child_items, levels_for}
+use Rattle.archive_shape_canonical.specs.Settled.{Fit}
+use Rattle.archive_shape.specs.Bytes.{zeros}
+use Rattle.archive_shape_layout.specs.declared.error.Error.{Error}
+use Rattle.archive_shape_layout.specs.declared.error.Error.TheVariants.{LengthTooLarge, PositionTooLarge}
 use Rattle.archive_forms_laws.specs.State.{State, Keys}
 use Rattle.archive_forms_laws.specs.Spelling.{Spelling, state_after}
 use Rattle.archive_forms_laws.specs.Forms.{seen_as}

@@ -2,7 +2,7 @@
 use Rattle.std.proofs.Common.{◌≡◌, ◌∙◌, ℕ, zero, suc, ◌+◌, ◌-◌, ◌*◌, ◌<◌, ◌≤◌, List, [], ◌∷◌, ◌++◌, length, take, drop, refl, ap, sym, subst, arith}
 use Rattle.std.specs.Prelude.{⊤}
 use Rattle.std.proofs.lemmas.List.{take-append-drop, length-take, length-drop}
-use Rattle.archive_forms_laws.specs.ShapeCanonical.Packed.{levels_for, child_items}
+use Rattle.archive_shape_canonical.specs.Packed.{levels_for, child_items}
 use Rattle.archive_btree_spelling.specs.Parted.{shares, between}
 use Rattle.archive_btree_spelling.proofs.Levels.{Measured, measured, levels_are_least}
 

@@ -2,7 +2,7 @@
 use Rattle.std.proofs.Common.{◌≡◌, ◌∙◌, ℕ, zero, suc, ◌+◌, ◌<◌, ◌≤◌, nat_le, cond, Bool, true, false, List, [], ◌∷◌, ◌++◌, length, map, refl, ap, ap₂, sym, subst, arith, leb-true}
 use Rattle.std.proofs.lemmas.Bool.Decides.{nat_tests}
 use Rattle.std.proofs.Math.Nat.{pow-zero}
-use Rattle.archive_forms_laws.specs.ShapeCanonical.Packed.{full, levels_for}
+use Rattle.archive_shape_canonical.specs.Packed.{full, levels_for}
 use Rattle.archive_btree_layout.specs.Tree.{Tree, items, items_of, entries_of}
 use Rattle.archive_btree_spelling.specs.Parted.{Parted, shares, between}
 use Rattle.archive_btree_spelling.specs.Shown.{branches, node_of, tree_of}

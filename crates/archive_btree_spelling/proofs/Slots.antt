@@ -1,26 +1,26 @@
 -- What lies in the slots of a node is read as it is written.
 use Rattle.std.proofs.Common.{◌≡◌, ℕ, ◌+◌, ◌*◌, ◌≤◌, List, [], ◌∷◌, ◌++◌, refl, length, sym, ap, subst, ◌∙◌, arith, inl, inr, ⊎_elim, length-append}
 use Rattle.std.specs.Prelude.{⊤}
-use Rattle.archive_btree_layout.specs.ShapeLayout.Shape.{Shape, size_of}
-use Rattle.archive_btree_layout.specs.ShapeLayout.Shape.Shape.{tuple}
-use Rattle.archive_btree_layout.specs.ShapeLayout.Shape.Shapes.{no_shapes, more_shapes}
-use Rattle.archive_btree_layout.specs.ShapeLayout.Value.Values.{no_values, more_values}
-use Rattle.archive_btree_layout.specs.ShapeLayout.Content.{Names, entries, made}
-use Rattle.archive_btree_layout.specs.ShapeLayout.Content.Part.{at, entry}
-use Rattle.archive_btree_layout.specs.ShapeLayout.Content.Label.{whole}
-use Rattle.archive_btree_layout.specs.ShapeLayout.Content.Content.{plain}
-use Rattle.archive_btree_layout.specs.ShapeLayout.Holds.{OpenShared}
-use Rattle.archive_btree_layout.specs.ShapeLayout.Holds.Holds.{holds_plain}
-use Rattle.archive_forms_laws.specs.ShapeCanonical.Settled.{Fit}
+use Rattle.archive_shape_layout.specs.Shape.{Shape, size_of}
+use Rattle.archive_shape_layout.specs.Shape.Shape.{tuple}
+use Rattle.archive_shape_layout.specs.Shape.Shapes.{no_shapes, more_shapes}
+use Rattle.archive_shape_layout.specs.Value.Values.{no_values, more_values}
+use Rattle.archive_shape_layout.specs.Content.{Names, entries, made}
+use Rattle.archive_shape_layout.specs.Content.Part.{at, entry}
+use Rattle.archive_shape_layout.specs.Content.Label.{whole}
+use Rattle.archive_shape_layout.specs.Content.Content.{plain}
+use Rattle.archive_shape_layout.specs.Holds.{OpenShared}
+use Rattle.archive_shape_layout.specs.Holds.Holds.{holds_plain}
+use Rattle.archive_shape_canonical.specs.Settled.{Fit}
 use Rattle.archive_shape_canonical.proofs.Cleanness.{clean_by}
-use Rattle.archive_forms_laws.specs.ArchiveShape.Bytes.{HasBytes}
+use Rattle.archive_shape.specs.Bytes.{HasBytes}
 use Rattle.archive_shape.proofs.Pieces.{stands_left, stands_right}
 use Rattle.archive_forms_laws.specs.State.{State, Keys, visits_of, IsConsistent, AllFrom, AreKeyedBy}
 use Rattle.archive_forms_laws.specs.Spelling.{Spelling, state_after}
 use Rattle.archive_forms_laws.specs.Spells.{CanonicalPart, SpellsAt, EachSpells}
 use Rattle.archive_forms_laws.specs.Regions.{state_after_all, values, all_suit, pieces, pieces_fit}
-use Rattle.archive_forms_laws.specs.ShapeCanonical.Canonical.{AreBytes}
-use Rattle.archive_forms_laws.specs.ShapeWriting.declared.error.Error.{Error}
+use Rattle.archive_shape_canonical.specs.Canonical.{AreBytes}
+use Rattle.archive_shape_layout.specs.declared.error.Error.{Error}
 use Rattle.archive_forms_laws.proofs.States.{from_earlier}
 use Rattle.archive_forms_laws.proofs.Gaps.{bytes_none, bytes_append}
 use Rattle.archive_forms_laws.proofs.Regions.{CanonicalParts, no_parts, more_parts, state_after_all_pos}

@@ -3,16 +3,16 @@ use Rattle.std.proofs.Common.{◌≡◌, ℕ, zero, suc, ◌+◌, ◌-◌, ◌*�
 use Rattle.std.proofs.lemmas.Bool.{cases_lt}
 use Rattle.std.proofs.lemmas.List.{length-replicate}
 use Rattle.std.specs.Prelude.{slice_index}
-use Rattle.archive_btree_layout.specs.ShapeLayout.Shape.{Shape, size_of}
-use Rattle.archive_btree_layout.specs.ShapeLayout.Value.{Value, Values}
-use Rattle.archive_btree_layout.specs.ShapeLayout.Bytes.{align_up}
-use Rattle.archive_btree_layout.specs.ShapeLayout.Content.{Names, Part, Span, Label, made, IsLegal, content_of, entries, children}
-use Rattle.archive_btree_layout.specs.ShapeLayout.Content.Content.{claimed}
-use Rattle.archive_btree_layout.specs.ShapeLayout.Holds.{Region, region_of, Visit, OpenShared, Ascends}
-use Rattle.archive_btree_layout.specs.ShapeLayout.Holds.Holds.{holds_claimed}
-use Rattle.archive_forms_laws.specs.ShapeCanonical.Settled.{Fit, IsSettled}
-use Rattle.archive_forms_laws.specs.ShapeCanonical.Clean.{IsClean, IsIn, InParts}
-use Rattle.archive_forms_laws.specs.ArchiveShape.Bytes.{HasBytes, zeros}
+use Rattle.archive_shape_layout.specs.Shape.{Shape, size_of}
+use Rattle.archive_shape_layout.specs.Value.{Value, Values}
+use Rattle.archive_shape_layout.specs.Bytes.{align_up}
+use Rattle.archive_shape_layout.specs.Content.{Names, Part, Span, Label, made, IsLegal, content_of, entries, children}
+use Rattle.archive_shape_layout.specs.Content.Content.{claimed}
+use Rattle.archive_shape_layout.specs.Holds.{Region, region_of, Visit, OpenShared, Ascends}
+use Rattle.archive_shape_layout.specs.Holds.Holds.{holds_claimed}
+use Rattle.archive_shape_canonical.specs.Settled.{Fit, IsSettled}
+use Rattle.archive_shape_canonical.specs.Clean.{IsClean, IsIn, InParts}
+use Rattle.archive_shape.specs.Bytes.{HasBytes, zeros}
 use Rattle.archive_shape.proofs.Pieces.{stands_left, stands_right, zero_stands}
 use Rattle.archive_forms_laws.specs.Spells.{CanonicalPart}
 use Rattle.archive_forms_laws.proofs.Gaps.{gaps_join, ascends_join}

@@ -3,33 +3,33 @@ use Rattle.std.proofs.Common.{◌≡◌, ℕ, ◌+◌, ◌*◌, ◌^◌, ◌≤�
 use Rattle.std.specs.Prelude.{⊤}
 use Rattle.std.proofs.lemmas.Bool.Decides.{nat_tests}
 use Rattle.std.specs.Int.{w32, cast_unsigned}
-use Rattle.archive_btree_layout.specs.ShapeLayout.Bytes.{window, word_at, target_from}
-use Rattle.archive_btree_layout.specs.ShapeLayout.Shape.{Shape}
-use Rattle.archive_btree_layout.specs.ShapeLayout.Value.{Value, Values, append_values, count_values}
-use Rattle.archive_btree_layout.specs.ShapeLayout.Value.Value.{group}
-use Rattle.archive_btree_layout.specs.ShapeLayout.Value.Values.{no_values, more_values}
-use Rattle.archive_btree_layout.specs.ShapeLayout.Content.{Names, Part, children, made, members, content_of, child_content, choose, following}
-use Rattle.archive_btree_layout.specs.ShapeLayout.Content.Part.{node, child}
-use Rattle.archive_btree_layout.specs.ShapeLayout.Content.Label.{whole, same}
-use Rattle.archive_btree_layout.specs.ShapeLayout.Content.Content.{plain, illegal}
-use Rattle.archive_btree_layout.specs.ShapeLayout.Holds.{OpenShared, Visit, Ascends}
-use Rattle.archive_btree_layout.specs.ShapeLayout.Holds.Holds.{holds_plain}
-use Rattle.archive_btree_layout.specs.ShapeLayout.Holds.HoldAll.{holds_none}
-use Rattle.archive_forms_laws.specs.ShapeCanonical.Settled.{Fit, HasItems}
-use Rattle.archive_forms_laws.specs.ShapeCanonical.Seen.{keys_alone, by_keys}
-use Rattle.archive_forms_laws.specs.ShapeCanonical.Sharing.{erased, all_erased}
-use Rattle.archive_forms_laws.specs.ShapeCanonical.Canonical.{AreBytes}
+use Rattle.archive_shape_layout.specs.Bytes.{window, word_at, target_from}
+use Rattle.archive_shape_layout.specs.Shape.{Shape}
+use Rattle.archive_shape_layout.specs.Value.{Value, Values, append_values, count_values}
+use Rattle.archive_shape_layout.specs.Value.Value.{group}
+use Rattle.archive_shape_layout.specs.Value.Values.{no_values, more_values}
+use Rattle.archive_shape_layout.specs.Content.{Names, Part, children, made, members, content_of, child_content, choose, following}
+use Rattle.archive_shape_layout.specs.Content.Part.{node, child}
+use Rattle.archive_shape_layout.specs.Content.Label.{whole, same}
+use Rattle.archive_shape_layout.specs.Content.Content.{plain, illegal}
+use Rattle.archive_shape_layout.specs.Holds.{OpenShared, Visit, Ascends}
+use Rattle.archive_shape_layout.specs.Holds.Holds.{holds_plain}
+use Rattle.archive_shape_layout.specs.Holds.HoldAll.{holds_none}
+use Rattle.archive_shape_canonical.specs.Settled.{Fit, HasItems}
+use Rattle.archive_shape_canonical.specs.Seen.{keys_alone, by_keys}
+use Rattle.archive_shape_canonical.specs.Sharing.{erased, all_erased}
+use Rattle.archive_shape_canonical.specs.Canonical.{AreBytes}
 use Rattle.archive_shape_canonical.proofs.Cleanness.{clean_by}
-use Rattle.archive_forms_laws.specs.ArchiveShape.Bytes.{HasBytes}
+use Rattle.archive_shape.specs.Bytes.{HasBytes}
 use Rattle.archive_shape.proofs.Pieces.{stands_left, stands_right, stands_word}
-use Rattle.archive_forms_laws.specs.ShapeWriting.declared.error.Error.{Error}
+use Rattle.archive_shape_layout.specs.declared.error.Error.{Error}
 use Rattle.archive_forms_laws.specs.State.{State, Keys, visits_of, IsConsistent, AllFrom, AreKeyedBy}
 use Rattle.archive_forms_laws.specs.Spelling.{Spelling, state_after}
 use Rattle.archive_forms_laws.specs.Spells.{CanonicalPart}
 use Rattle.archive_forms_laws.specs.Regions.{state_after_all, resolvers, values, plain_values, all_suit, pieces, pieces_fit, pieces_refused}
 use Rattle.archive_forms_laws.proofs.States.{from_earlier}
 use Rattle.archive_forms_laws.proofs.Gaps.{bytes_none, bytes_append, bytes_word}
-use Rattle.archive_forms_laws.specs.ArchiveShape.Offsets.{difference}
+use Rattle.archive_shape.specs.Offsets.{difference}
 use Rattle.archive_forms_laws.proofs.Regions.{CanonicalParts, more_parts}
 use Rattle.archive_forms_laws.proofs.Pointers.{offset_stands, one_part}
 use Rattle.archive_forms_laws.specs.Links.{link_bytes, LinkFits}

@@ -1,14 +1,14 @@
 -- The values below the pointers of a node and those of its own entries in turn are those of all its items.
 use Rattle.std.proofs.Common.{◌≡◌, ◌∙◌, ℕ, zero, suc, ◌+◌, ◌<◌, List, [], ◌∷◌, ◌++◌, length, refl, ap, ap₂, sym, subst, arith, length-append}
 use Rattle.std.specs.Prelude.{⊤}
-use Rattle.archive_btree_layout.specs.ShapeLayout.Value.{Values, append_values, count_values}
-use Rattle.archive_btree_layout.specs.ShapeLayout.Value.Value.{group}
-use Rattle.archive_btree_layout.specs.ShapeLayout.Value.Values.{no_values, more_values}
-use Rattle.archive_btree_layout.specs.ShapeLayout.Content.{members, weave, first_values, other_values}
-use Rattle.archive_forms_laws.specs.ShapeCanonical.Packed.{ArePacked}
-use Rattle.archive_forms_laws.specs.ShapeCanonical.Seen.{blank, blanks, all_blank}
-use Rattle.archive_forms_laws.specs.ShapeCanonical.Sharing.{erased, all_erased}
-use Rattle.archive_forms_laws.specs.ShapeCanonical.Settled.{Fit}
+use Rattle.archive_shape_layout.specs.Value.{Values, append_values, count_values}
+use Rattle.archive_shape_layout.specs.Value.Value.{group}
+use Rattle.archive_shape_layout.specs.Value.Values.{no_values, more_values}
+use Rattle.archive_shape_layout.specs.Content.{members, weave, first_values, other_values}
+use Rattle.archive_shape_canonical.specs.Packed.{ArePacked}
+use Rattle.archive_shape_canonical.specs.Seen.{blank, blanks, all_blank}
+use Rattle.archive_shape_canonical.specs.Sharing.{erased, all_erased}
+use Rattle.archive_shape_canonical.specs.Settled.{Fit}
 use Rattle.archive_forms_laws.specs.State.{State, Keys}
 use Rattle.archive_forms_laws.specs.Spelling.{Spelling, state_after}
 use Rattle.archive_forms_laws.specs.Regions.{values, plain_values, all_suit}

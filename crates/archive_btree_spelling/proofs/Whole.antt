@@ -1,13 +1,13 @@
 -- What holds of a node besides how it is read: the state after it, its value without positions, its bytes and its
 -- limits.
 use Rattle.std.proofs.Common.{◌≡◌, ℕ, zero, suc, ◌+◌, ◌-◌, ◌<◌, Option, List, [], ◌∷◌, ◌++◌, length, arith, ◌∙◌, inl, inr, length-append}
-use Rattle.archive_btree_layout.specs.ShapeLayout.Shape.{Shape}
-use Rattle.archive_btree_layout.specs.ShapeLayout.Content.{Names, keys_offset, values_offset, links_offset}
-use Rattle.archive_forms_laws.specs.ShapeCanonical.Settled.{Fit}
-use Rattle.archive_forms_laws.specs.ShapeCanonical.Sharing.{all_erased}
-use Rattle.archive_forms_laws.specs.ShapeCanonical.Canonical.{AreBytes}
-use Rattle.archive_forms_laws.specs.ArchiveShape.Bytes.{zeros}
-use Rattle.archive_forms_laws.specs.ShapeWriting.declared.error.Error.{Error}
+use Rattle.archive_shape_layout.specs.Shape.{Shape}
+use Rattle.archive_shape_layout.specs.Content.{Names, keys_offset, values_offset, links_offset}
+use Rattle.archive_shape_canonical.specs.Settled.{Fit}
+use Rattle.archive_shape_canonical.specs.Sharing.{all_erased}
+use Rattle.archive_shape_canonical.specs.Canonical.{AreBytes}
+use Rattle.archive_shape.specs.Bytes.{zeros}
+use Rattle.archive_shape_layout.specs.declared.error.Error.{Error}
 use Rattle.archive_forms_laws.specs.State.{State, Keys, IsConsistent, AreKeyedBy, advanced}
 use Rattle.archive_forms_laws.specs.Spelling.{Spelling}
 use Rattle.archive_forms_laws.specs.Regions.{resolvers, values, plain_values, all_suit, pieces}

@@ -1,21 +1,21 @@
 -- What is written of pairs has a packed tree of them.
 use Rattle.std.proofs.Common.{◌≡◌, ◌∙◌, ℕ, List, [], ◌∷◌, length, Some, refl, ap, sym, subst, arith}
-use Rattle.archive_btree_layout.specs.ShapeLayout.Shape.{Shape}
-use Rattle.archive_btree_layout.specs.ShapeLayout.Shape.Shape.{tree}
-use Rattle.archive_btree_layout.specs.ShapeLayout.Shape.Pointee.{sized}
-use Rattle.archive_btree_layout.specs.ShapeLayout.Value.{Value, Values, count_values}
-use Rattle.archive_btree_layout.specs.ShapeLayout.Value.Values.{no_values, more_values}
-use Rattle.archive_btree_layout.specs.ShapeLayout.Content.{Names, made, members, pointee_content}
-use Rattle.archive_btree_layout.specs.ShapeLayout.Content.Part.{at, behind}
-use Rattle.archive_btree_layout.specs.ShapeLayout.Content.Label.{same}
-use Rattle.archive_btree_layout.specs.ShapeLayout.Holds.{Region, Visit, OpenShared, Holds, HoldAll, Ascends, root_position}
-use Rattle.archive_btree_layout.specs.ShapeLayout.Holds.Holds.{holds_plain, holds_claimed, holds_first, holds_later, holds_back}
-use Rattle.archive_btree_layout.specs.ShapeLayout.Holds.HoldAll.{holds_none, holds_more}
-use Rattle.archive_btree_layout.specs.ShapeLayout.Visited.{ClaimedAfter}
-use Rattle.archive_btree_layout.proofs.ShapeLayout.Visited.{claimed_raised, claimed_front, claimed_inside, claimed_first}
-use Rattle.archive_forms_laws.specs.ShapeCanonical.Settled.{Fit}
-use Rattle.archive_forms_laws.specs.ShapeCanonical.Everywhere.{reaches_here, reaches_claimed, reaches_first}
-use Rattle.archive_forms_laws.proofs.ShapeCanonical.Steps.{count_members}
+use Rattle.archive_shape_layout.specs.Shape.{Shape}
+use Rattle.archive_shape_layout.specs.Shape.Shape.{tree}
+use Rattle.archive_shape_layout.specs.Shape.Pointee.{sized}
+use Rattle.archive_shape_layout.specs.Value.{Value, Values, count_values}
+use Rattle.archive_shape_layout.specs.Value.Values.{no_values, more_values}
+use Rattle.archive_shape_layout.specs.Content.{Names, made, members, pointee_content}
+use Rattle.archive_shape_layout.specs.Content.Part.{at, behind}
+use Rattle.archive_shape_layout.specs.Content.Label.{same}
+use Rattle.archive_shape_layout.specs.Holds.{Region, Visit, OpenShared, Holds, HoldAll, Ascends, root_position}
+use Rattle.archive_shape_layout.specs.Holds.Holds.{holds_plain, holds_claimed, holds_first, holds_later, holds_back}
+use Rattle.archive_shape_layout.specs.Holds.HoldAll.{holds_none, holds_more}
+use Rattle.archive_shape_layout.specs.Visited.{ClaimedAfter}
+use Rattle.archive_shape_layout.proofs.Visited.{claimed_raised, claimed_front, claimed_inside, claimed_first}
+use Rattle.archive_shape_canonical.specs.Settled.{Fit}
+use Rattle.archive_shape_canonical.specs.Everywhere.{reaches_here, reaches_claimed, reaches_first}
+use Rattle.archive_shape_canonical.proofs.Steps.{count_members}
 use Rattle.archive_btree_layout.specs.Tree.{items}
 use Rattle.archive_btree_layout.specs.Items.{IsTreeRead}
 use Rattle.archive_btree_layout.specs.Items.IsTreeRead.{reads_none, reads_tree}

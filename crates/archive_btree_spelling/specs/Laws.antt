@@ -1,8 +1,8 @@
 -- The laws of how maps are archived, as statements.
 use Rattle.std.specs.Prelude.{◌≡◌, ℕ, ◌<◌, List, [], ◌∷◌, length}
-use Rattle.archive_btree_layout.specs.ShapeLayout.Content.{Names}
-use Rattle.archive_forms_laws.specs.ShapeCanonical.Settled.{Fit}
-use Rattle.archive_forms_laws.specs.ShapeCanonical.Packed.{levels_for}
+use Rattle.archive_shape_layout.specs.Content.{Names}
+use Rattle.archive_shape_canonical.specs.Settled.{Fit}
+use Rattle.archive_shape_canonical.specs.Packed.{levels_for}
 use Rattle.archive_btree_layout.specs.Tree.{items}
 use Rattle.archive_btree_layout.specs.Packed.{IsPacked}
 use Rattle.archive_forms_laws.specs.State.{initial}

@@ -1,8 +1,8 @@
 -- What a call that writes one node guarantees, for each state that the serializer may be in.
 use Rattle.std.specs.Prelude.{◌≡◌, ℕ, List, length, Option, Result}
-use Rattle.archive_btree_layout.specs.ShapeLayout.Shape.{Shape}
-use Rattle.archive_forms_laws.specs.ShapeWriting.Writing.{WriterMembers}
-use Rattle.archive_forms_laws.specs.ShapeWriting.declared.error.Error.{Error}
+use Rattle.archive_shape_layout.specs.Shape.{Shape}
+use Rattle.archive_shape_layout.specs.Writing.{WriterMembers}
+use Rattle.archive_shape_layout.specs.declared.error.Error.{Error}
 use Rattle.archive_forms_laws.specs.State.{State, advanced}
 use Rattle.archive_forms_laws.specs.Spelling.{Spelling}
 use Rattle.archive_forms_laws.specs.Serializing.{IsAt, LaysData}

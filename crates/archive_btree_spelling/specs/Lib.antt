@@ -1,4 +1,3 @@
-pub mod BtreeLayout
 pub mod Laws
 pub mod Laying
 pub mod Maps

@@ -1,11 +1,11 @@
 -- How a map is archived: the packed search tree of its entries, and a pointer to its root with the number of entries.
 use Rattle.std.specs.Prelude.{◌≡◌, ℕ, ◌^◌, ◌<◌, ◌≤◌, List, [], ◌++◌, length, Option, None, ⊤, ◌⊎◌}
 use Rattle.std.specs.Int.{w32, to_le_bytes}
-use Rattle.archive_btree_layout.specs.ShapeLayout.Shape.{Shape}
-use Rattle.archive_btree_layout.specs.ShapeLayout.Value.Value.{group}
-use Rattle.archive_btree_layout.specs.ShapeLayout.Value.Values.{no_values}
-use Rattle.archive_forms_laws.specs.ShapeWriting.declared.error.Error.TheVariants.{LengthTooLarge}
-use Rattle.archive_forms_laws.specs.ShapeCanonical.Packed.{levels_for}
+use Rattle.archive_shape_layout.specs.Shape.{Shape}
+use Rattle.archive_shape_layout.specs.Value.Value.{group}
+use Rattle.archive_shape_layout.specs.Value.Values.{no_values}
+use Rattle.archive_shape_layout.specs.declared.error.Error.TheVariants.{LengthTooLarge}
+use Rattle.archive_shape_canonical.specs.Packed.{levels_for}
 use Rattle.archive_forms_laws.specs.Spelling.{Spelling}
 use Rattle.archive_forms_laws.specs.Levels.{levels_spelling}
 use Rattle.archive_forms_laws.specs.Regions.{plain_values, all_suit}

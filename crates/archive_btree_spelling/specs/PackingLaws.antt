@@ -1,10 +1,10 @@
 -- The laws of packed trees in canonical archives, as statements.
 use Rattle.std.specs.Prelude.{◌≡◌, ℕ, ◌<◌, ◌≤◌, List, [], ◌∷◌, length}
-use Rattle.archive_btree_layout.specs.ShapeLayout.Shape.{Shape}
-use Rattle.archive_btree_layout.specs.ShapeLayout.Shape.Shape.{tree}
-use Rattle.archive_btree_layout.specs.ShapeLayout.Value.{Value}
-use Rattle.archive_btree_layout.specs.ShapeLayout.Content.{Names}
-use Rattle.archive_forms_laws.specs.ShapeCanonical.Settled.{Fit}
+use Rattle.archive_shape_layout.specs.Shape.{Shape}
+use Rattle.archive_shape_layout.specs.Shape.Shape.{tree}
+use Rattle.archive_shape_layout.specs.Value.{Value}
+use Rattle.archive_shape_layout.specs.Content.{Names}
+use Rattle.archive_shape_canonical.specs.Settled.{Fit}
 use Rattle.archive_btree_layout.specs.Tree.{Tree, items, count_nodes, height}
 use Rattle.archive_btree_layout.specs.Packed.{IsPacked}
 use Rattle.archive_btree_layout.specs.Reading.{Place, HasNode}

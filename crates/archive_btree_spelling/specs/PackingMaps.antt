@@ -1,17 +1,17 @@
 -- The search trees of maps in canonical archives.
 use Rattle.std.specs.Prelude.{◌≡◌, ℕ, ◌+◌, List, length, Some}
-use Rattle.archive_btree_layout.specs.ShapeLayout.Bytes.{word_at, target_from}
-use Rattle.archive_btree_layout.specs.ShapeLayout.Shape.{Shape}
-use Rattle.archive_btree_layout.specs.ShapeLayout.Shape.Shape.{tree}
-use Rattle.archive_btree_layout.specs.ShapeLayout.Shape.Pointee.{sized}
-use Rattle.archive_btree_layout.specs.ShapeLayout.Value.{Value}
-use Rattle.archive_btree_layout.specs.ShapeLayout.Content.{Names, members}
-use Rattle.archive_btree_layout.specs.ShapeLayout.Content.Part.{at, behind}
-use Rattle.archive_btree_layout.specs.ShapeLayout.Holds.{Region, Visit, root_position}
-use Rattle.archive_forms_laws.specs.ShapeCanonical.Settled.{Fit}
-use Rattle.archive_forms_laws.specs.ShapeCanonical.Sharing.{erased}
-use Rattle.archive_forms_laws.specs.ShapeCanonical.Canonical.{CanonicalArchive}
-use Rattle.archive_forms_laws.specs.ShapeCanonical.Everywhere.{Reaches}
+use Rattle.archive_shape_layout.specs.Bytes.{word_at, target_from}
+use Rattle.archive_shape_layout.specs.Shape.{Shape}
+use Rattle.archive_shape_layout.specs.Shape.Shape.{tree}
+use Rattle.archive_shape_layout.specs.Shape.Pointee.{sized}
+use Rattle.archive_shape_layout.specs.Value.{Value}
+use Rattle.archive_shape_layout.specs.Content.{Names, members}
+use Rattle.archive_shape_layout.specs.Content.Part.{at, behind}
+use Rattle.archive_shape_layout.specs.Holds.{Region, Visit, root_position}
+use Rattle.archive_shape_canonical.specs.Settled.{Fit}
+use Rattle.archive_shape_canonical.specs.Sharing.{erased}
+use Rattle.archive_shape_canonical.specs.Canonical.{CanonicalArchive}
+use Rattle.archive_shape_canonical.specs.Everywhere.{Reaches}
 use Rattle.archive_btree_layout.specs.Tree.{Tree, items}
 use Rattle.archive_btree_layout.specs.Packed.{IsPacked}
 use Rattle.archive_btree_layout.specs.Reading.{Place, HasNode}

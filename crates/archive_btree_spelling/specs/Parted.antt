@@ -1,6 +1,6 @@
 -- Which items are in the root of a packed search tree, and which below each of its pointers.
 use Rattle.std.specs.Prelude.{ℕ, zero, suc, cond, nat_le, List, [], ◌∷◌, ◌++◌, length, take, drop}
-use Rattle.archive_forms_laws.specs.ShapeCanonical.Packed.{child_items}
+use Rattle.archive_shape_canonical.specs.Packed.{child_items}
 
 -- A node: its kind, 0 for a leaf and 1 for an inner node, the items below each of its pointers from left to right, and
 -- its own items. A leaf has no pointers.

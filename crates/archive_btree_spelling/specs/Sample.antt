@@ -1,10 +1,10 @@
 -- Samples: maps of numbers with at most five entries in a node.
 use Rattle.std.specs.Prelude.{ℕ, false, List, [], ◌∷◌, ◌++◌, Option}
 use Rattle.std.specs.Int.{w32, to_le_bytes}
-use Rattle.archive_btree_layout.specs.ShapeLayout.Shape.{Shape}
-use Rattle.archive_btree_layout.specs.ShapeLayout.Shape.Shape.{number, tree}
-use Rattle.archive_btree_layout.specs.ShapeLayout.Value.Value.{natural}
-use Rattle.archive_forms_laws.specs.ArchiveShape.Bytes.{zeros}
+use Rattle.archive_shape_layout.specs.Shape.{Shape}
+use Rattle.archive_shape_layout.specs.Shape.Shape.{number, tree}
+use Rattle.archive_shape_layout.specs.Value.Value.{natural}
+use Rattle.archive_shape.specs.Bytes.{zeros}
 use Rattle.archive_forms_laws.specs.Spelling.{Spelling}
 use Rattle.archive_forms_laws.specs.Forms.{leaf_spelling}
 use Rattle.archive_btree_spelling.specs.Maps.{btree_spelling}

@@ -2,15 +2,15 @@
 -- node itself.
 use Rattle.std.specs.Prelude.{◌≡◌, ℕ, zero, suc, ◌+◌, ◌-◌, ◌^◌, ◌<◌, List, [], ◌∷◌, ◌++◌, length, Option, Some, None, ⊤, ◌⊎◌}
 use Rattle.std.specs.Int.{w32, to_le_bytes}
-use Rattle.archive_btree_layout.specs.ShapeLayout.Bytes.{align_up}
-use Rattle.archive_btree_layout.specs.ShapeLayout.Shape.{Shape, size_of}
-use Rattle.archive_btree_layout.specs.ShapeLayout.Value.{Values}
-use Rattle.archive_btree_layout.specs.ShapeLayout.Value.Value.{group}
-use Rattle.archive_btree_layout.specs.ShapeLayout.Value.Values.{no_values}
-use Rattle.archive_btree_layout.specs.ShapeLayout.Content.{weave, words_of, keys_offset, values_offset, links_offset, link_node_align, link_node_size}
-use Rattle.archive_forms_laws.specs.ArchiveShape.Bytes.{zeros}
-use Rattle.archive_forms_laws.specs.ShapeWriting.declared.error.Error.{Error}
-use Rattle.archive_forms_laws.specs.ShapeWriting.declared.error.Error.TheVariants.{PositionTooLarge}
+use Rattle.archive_shape_layout.specs.Bytes.{align_up}
+use Rattle.archive_shape_layout.specs.Shape.{Shape, size_of}
+use Rattle.archive_shape_layout.specs.Value.{Values}
+use Rattle.archive_shape_layout.specs.Value.Value.{group}
+use Rattle.archive_shape_layout.specs.Value.Values.{no_values}
+use Rattle.archive_shape_layout.specs.Content.{weave, words_of, keys_offset, values_offset, links_offset, link_node_align, link_node_size}
+use Rattle.archive_shape.specs.Bytes.{zeros}
+use Rattle.archive_shape_layout.specs.declared.error.Error.{Error}
+use Rattle.archive_shape_layout.specs.declared.error.Error.TheVariants.{PositionTooLarge}
 use Rattle.archive_forms_laws.specs.State.{State, Met}
 use Rattle.archive_forms_laws.specs.Spelling.{Spelling, state_after}
 use Rattle.archive_forms_laws.specs.Fields.{tuple2_spelling}

@@ -1,7 +1,7 @@
 //! Archives of maps of numbers, by their bytes.
 ghost use Rattle.std.specs.Prelude.{◌≡◌, IfSome, [], false, ⊤};
 ghost use Rattle.std.specs.Int.{w32};
-ghost use Rattle.archive_shape.specs.ShapeLayout.Shape.Shape.{number};
+ghost use Rattle.archive_shape_layout.specs.Shape.Shape.{number};
 ghost use Rattle.archive_forms_values.specs.Parts.{HasValue};
 
 use archive_btree_maps::ArchivedBTreeMap;

@@ -1,7 +1,7 @@
 //! Tests of comparisons of archived maps with others, and with those of std.
 ghost use Rattle.std.specs.Prelude.{false, ⊤};
 ghost use Rattle.std.specs.Int.{w32};
-ghost use Rattle.archive_shape.specs.ShapeLayout.Shape.Shape.{number};
+ghost use Rattle.archive_shape_layout.specs.Shape.Shape.{number};
 ghost use Rattle.archive_forms_values.specs.Parts.{HasValue};
 
 use crate::archives::{EMPTY, EMPTY_LEAF, Numbers, ONE_PAIR, SIX_PAIRS, root_of};

@@ -1,8 +1,8 @@
 //! Tests of reading archived maps.
 ghost use Rattle.std.specs.Prelude.{false, ⊤};
 ghost use Rattle.std.specs.Int.{w32};
-ghost use Rattle.archive_shape.specs.ShapeLayout.Shape.Shape.{number};
-ghost use Rattle.archive_btree_walking.specs.Maps.{HasMap};
+ghost use Rattle.archive_shape_layout.specs.Shape.Shape.{number};
+ghost use Rattle.archive_btree_maps.specs.Maps.{HasMap};
 
 use crate::archives::{EMPTY, EMPTY_LEAF, Numbers, ONE_PAIR, SIX_PAIRS, compare_numbers, root_of};
 use archive_btree_maps::{ArchivedBTreeMap, found_is_present};
@@ -16,8 +16,10 @@ fn is_counted(root: Ref<'_, Numbers>, key: u32, value: u32, count: usize) -> boo
     requires { HasMap 5 (number w32 false) (number w32 false) (λ _. ⊤) (λ _. ⊤) root }
 {
     match ArchivedBTreeMap::get_counted(root, &key) {
-        (Some(found), compared) => compared == count && native_of(found) == value,
-        (None, compared) => compared == count && value == 0,
+        (Some(found), steps) => steps.comparisons == count
+            && steps.strides == 0
+            && native_of(found) == value,
+        (None, steps) => steps.comparisons == count && steps.strides == 0 && value == 0,
     }
 }
 

@@ -1,10 +1,10 @@
 //! Tests of writing to archived maps through seals.
 ghost use Rattle.std.specs.Prelude.{◌≡◌, List, length};
-ghost use Rattle.archive_shape.specs.ShapeLayout.Shape.Shape.{tree};
-ghost use Rattle.archive_btree_walking.specs.BtreeLayout.Reading.{Place};
+ghost use Rattle.archive_shape_layout.specs.Shape.Shape.{tree};
+ghost use Rattle.archive_btree_layout.specs.Reading.{Place};
 ghost use Rattle.archive_forms_values.specs.Parts.{HasValue, both};
-ghost use Rattle.archive_btree_walking.specs.Walks.{BegunMap, IsWritten};
-ghost use Rattle.archive_btree_walking.specs.Cursors.{HasRange};
+ghost use Rattle.archive_btree_maps.specs.Walks.{BegunMap, IsWritten};
+ghost use Rattle.archive_btree_maps.specs.Cursors.{HasRange};
 
 use crate::archives::{FOUR_TEXTS, Texts, root_of};
 use archive_btree_maps::{ArchivedBTreeMap, RangeSeal};

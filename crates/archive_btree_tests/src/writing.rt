@@ -1,6 +1,6 @@
 //! Tests of writing maps, and entries that come in order.
 ghost use Rattle.std.specs.Prelude.{◌-◌, ◌^◌, ◌<◌};
-ghost use Rattle.archive_forms_values.specs.FormsLaws.Serializing.{HasState, SerializesBy};
+ghost use Rattle.archive_forms_laws.specs.Serializing.{HasState, SerializesBy};
 
 use crate::archives::{EMPTY, ONE_PAIR, SIX_PAIRS, root_of};
 use crate::sets::{FOUR, NONE, SIX};

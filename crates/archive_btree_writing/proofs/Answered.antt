@@ -1,7 +1,7 @@
 -- Errors that a call passes on.
 use Rattle.std.proofs.Common.{◌≡◌, Err, subst, sym}
 use Rattle.std.specs.Prelude.{Result, MatchResult}
-use Rattle.archive_shape_writing.specs.declared.error.Error.{Error}
+use Rattle.archive_shape_layout.specs.declared.error.Error.{Error}
 
 -- the guarantee for an error is kept by the result that it is
 pub answers_error : {A : Type 0} (result : Result A Error) (e : Error) (ok : A → Type 0) (refused : Error → Type 0) → result ≡ Err e → refused e → MatchResult result ok refused

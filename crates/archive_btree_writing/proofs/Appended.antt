@@ -1,9 +1,9 @@
 -- The data of values side by side, in two parts.
 use Rattle.std.proofs.Common.{◌≡◌, List, [], ◌∷◌, ◌++◌, ◌+◌, length, length-append, append_assoc, add-zero, refl, ap, sym, ◌∙◌, inr, arith}
-use Rattle.archive_shape_writing.specs.declared.error.Error.{Error}
-use Rattle.archive_forms_values.specs.FormsLaws.State.{State}
-use Rattle.archive_forms_values.specs.FormsLaws.Spelling.{Spelling, state_after}
-use Rattle.archive_forms_values.specs.FormsLaws.Regions.{state_after_all, pieces, resolvers, pieces_fit, pieces_refused}
+use Rattle.archive_shape_layout.specs.declared.error.Error.{Error}
+use Rattle.archive_forms_laws.specs.State.{State}
+use Rattle.archive_forms_laws.specs.Spelling.{Spelling, state_after}
+use Rattle.archive_forms_laws.specs.Regions.{state_after_all, pieces, resolvers, pieces_fit, pieces_refused}
 
 module _ {C R : Type 0} (w : Spelling C R) where
   pub state-pos : (xs : List C) (st : State) → (state_after_all w xs st).pos ≡ st.pos + length (pieces w xs st)

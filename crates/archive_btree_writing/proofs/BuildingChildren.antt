@@ -1,15 +1,15 @@
 -- Inner nodes on the levels of a packed tree.
 use Rattle.std.proofs.Common.{◌≡◌, ℕ, zero, suc, ◌+◌, ◌-◌, ◌<◌, ◌≤◌, List, [], ◌∷◌, ◌++◌, length, take, take_all, Option, Some, Ok, Err, sym, subst, ◌∙◌, arith}
-use Rattle.archive_shape.specs.ShapeLayout.Shape.{Shape}
-use Rattle.archive_shape_writing.specs.Writing.{WriterMembers}
-use Rattle.archive_shape_writing.specs.declared.error.Error.{Error}
-use Rattle.archive_forms_values.specs.FormsLaws.Spelling.{Spelling, state_after}
-use Rattle.archive_forms_values.specs.FormsLaws.Serializing.{HasState}
-use Rattle.archive_forms_values.specs.ShapeCanonical.Packed.{child_items}
+use Rattle.archive_shape_layout.specs.Shape.{Shape}
+use Rattle.archive_shape_layout.specs.Writing.{WriterMembers}
+use Rattle.archive_shape_layout.specs.declared.error.Error.{Error}
+use Rattle.archive_forms_laws.specs.Spelling.{Spelling, state_after}
+use Rattle.archive_forms_laws.specs.Serializing.{HasState}
+use Rattle.archive_shape_canonical.specs.Packed.{child_items}
 use Rattle.archive_btree_spelling.specs.Maps.{packed_spelling}
 use Rattle.archive_btree_spelling.specs.Laying.{LaysNode}
 use Rattle.archive_btree_writing.specs.Built.{IsBuilt, IsCutShort}
-use Rattle.archive_forms_values.specs.FormsLaws.Taking.{GivesAs, MayGiveAll}
+use Rattle.archive_forms_laws.specs.Taking.{GivesAs, MayGiveAll}
 use Rattle.archive_btree_writing.proofs.Opening.{Open, open_none, open_more, open_state}
 use Rattle.archive_btree_writing.proofs.Closing.{child_cut, inner_built, inner_cut}
 use Rattle.std.specs.Prelude.{map}

@@ -1,9 +1,9 @@
 -- Pieces of data that calls write, one after the other.
 use Rattle.std.proofs.Common.{ℕ, List, [], ◌++◌, append-nil, subst, ◌∙◌, inl, inr, ◌⊎◌, refl}
-use Rattle.archive_shape_writing.specs.Writing.{WriterMembers, Written, Failed}
-use Rattle.archive_shape_writing.specs.declared.error.Error.{Error}
-use Rattle.archive_shape_writing.proofs.Joined.{cut_none, cut_first, cut_after, failed_first, failed_after}
-use Rattle.archive_forms_values.specs.FormsLaws.Serializing.{Stopped, of_data}
+use Rattle.archive_shape_layout.specs.Writing.{WriterMembers, Written, Failed}
+use Rattle.archive_shape_layout.specs.declared.error.Error.{Error}
+use Rattle.archive_shape_layout.proofs.Joined.{cut_none, cut_first, cut_after, failed_first, failed_after}
+use Rattle.archive_forms_laws.specs.Serializing.{Stopped, of_data}
 use Rattle.archive_forms_writing.proofs.Laying.{wider}
 
 module _ {W : Type 0} (s : WriterMembers W) where

@@ -1,21 +1,21 @@
 -- Trees that were written, and those whose writing stopped.
 use Rattle.std.proofs.Common.{◌≡◌, ℕ, zero, ◌+◌, ◌<◌, ◌≤◌, List, [], ◌∷◌, ◌++◌, length, append_assoc, append-nil, length-append, map, Option, Some, None, Ok, Err, refl, ap, sym, subst, ◌∙◌, inl, inr, ◌⊎◌, arith}
 use Rattle.std.specs.Iterator.{Yields}
-use Rattle.archive_shape.specs.ShapeLayout.Shape.{Shape}
-use Rattle.archive_shape_writing.specs.Writing.{WriterMembers}
-use Rattle.archive_shape_writing.specs.declared.error.Error.{Error}
-use Rattle.archive_shape_writing.specs.declared.error.Error.TheVariants.{IteratorLengthMismatch}
-use Rattle.archive_shape_writing.proofs.Joined.{written_none}
-use Rattle.archive_forms_values.specs.FormsLaws.State.{State}
-use Rattle.archive_forms_values.specs.FormsLaws.Spelling.{Spelling}
-use Rattle.archive_forms_values.specs.FormsLaws.Serializing.{IsAt}
-use Rattle.archive_forms_values.specs.FormsLaws.Regions.{state_after_all}
-use Rattle.archive_forms_values.specs.ShapeCanonical.Packed.{child_items}
+use Rattle.archive_shape_layout.specs.Shape.{Shape}
+use Rattle.archive_shape_layout.specs.Writing.{WriterMembers}
+use Rattle.archive_shape_layout.specs.declared.error.Error.{Error}
+use Rattle.archive_shape_layout.specs.declared.error.Error.TheVariants.{IteratorLengthMismatch}
+use Rattle.archive_shape_layout.proofs.Joined.{written_none}
+use Rattle.archive_forms_laws.specs.State.{State}
+use Rattle.archive_forms_laws.specs.Spelling.{Spelling}
+use Rattle.archive_forms_laws.specs.Serializing.{IsAt}
+use Rattle.archive_forms_laws.specs.Regions.{state_after_all}
+use Rattle.archive_shape_canonical.specs.Packed.{child_items}
 use Rattle.archive_btree_spelling.specs.Parted.{Parted, parted, shares, between}
 use Rattle.archive_btree_spelling.specs.Written.{tree_spelling}
 use Rattle.archive_btree_spelling.specs.Laying.{LaysNode}
 use Rattle.archive_btree_writing.specs.Built.{IsBuilt, IsShort, IsCutShort}
-use Rattle.archive_forms_values.specs.FormsLaws.Taking.{GivesAs}
+use Rattle.archive_forms_laws.specs.Taking.{GivesAs}
 use Rattle.archive_btree_writing.proofs.Taken.{Yields-append}
 use Rattle.archive_btree_writing.proofs.BuildingLaying.{Stops, stops_before, stops_first, stops_behind}
 use Rattle.archive_btree_writing.proofs.Parting.{leaf_parts, parted_leaf, parted_inner, next_share}

@@ -1,18 +1,18 @@
 -- A node's bytes, which are written part by part over zeros.
 use Rattle.std.proofs.Common.{◌≡◌, ℕ, ◌+◌, ◌-◌, ◌*◌, ◌^◌, ◌≤◌, ◌<◌, set, List, [], ◌∷◌, ◌++◌, length, refl, arith, length-append, append_assoc, ap, sym, subst, ◌∙◌, mul-le-mul_right, Some, None, Option}
 use Rattle.std.proofs.lemmas.List.{length-replicate}
-use Rattle.archive_shape.specs.ShapeLayout.Shape.{Shape, size_of}
-use Rattle.archive_shape.specs.ShapeLayout.Content.{keys_offset, values_offset, links_offset, link_node_size, words_of}
-use Rattle.archive_shape.proofs.ShapeLayout.Framed.{keys_fit, values_fit, links_fit}
+use Rattle.archive_shape_layout.specs.Shape.{Shape, size_of}
+use Rattle.archive_shape_layout.specs.Content.{keys_offset, values_offset, links_offset, link_node_size, words_of}
+use Rattle.archive_shape_layout.proofs.Framed.{keys_fit, values_fit, links_fit}
 use Rattle.archive_shape.specs.Bytes.{HasBytes, zeros, overwrite}
 use Rattle.archive_shape.proofs.Written.{length-overwrite, window_there}
 use Rattle.archive_btree_spelling.specs.Written.{filled}
-use Rattle.archive_btree_nodes.specs.declared.layout.NodeLayout.{NodeLayout}
-use Rattle.archive_btree_nodes.specs.Layout.{IsNodeLayout}
+use Rattle.archive_btree_maps.specs.declared.nodes.layout.NodeLayout.{NodeLayout}
+use Rattle.archive_btree_maps.specs.Layout.{IsNodeLayout}
 use Rattle.archive_btree_writing.specs.declared.children.Children.{Children}
 use Rattle.archive_forms_writing.proofs.Joining.{still_zero, piece_behind, zeros_behind, whole_over, set_over}
 use Rattle.archive_btree_writing.specs.Nodes.{kind_of, AreChildren, words_size}
-use Rattle.archive_shape.proofs.ShapeLayout.Places.{keys_follow}
+use Rattle.archive_shape_layout.proofs.Places.{keys_follow}
 
 -- ---- where the parts lie
 

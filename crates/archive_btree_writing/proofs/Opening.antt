@@ -2,15 +2,15 @@
 use Rattle.std.proofs.Common.{◌≡◌, ℕ, suc, ◌+◌, List, [], ◌∷◌, ◌++◌, length, append_assoc, length-append, map, Option, Some, refl, ap, sym, ◌∙◌, arith}
 use Rattle.std.proofs.lemmas.List.{map-append}
 use Rattle.std.specs.Iterator.{Yields}
-use Rattle.archive_shape_writing.specs.Writing.{WriterMembers}
-use Rattle.archive_forms_values.specs.FormsLaws.State.{State}
-use Rattle.archive_forms_values.specs.FormsLaws.Spelling.{Spelling}
-use Rattle.archive_forms_values.specs.FormsLaws.Serializing.{IsAt, HasState}
-use Rattle.archive_forms_values.specs.FormsLaws.Regions.{state_after_all}
-use Rattle.archive_forms_values.specs.ShapeCanonical.Packed.{child_items}
+use Rattle.archive_shape_layout.specs.Writing.{WriterMembers}
+use Rattle.archive_forms_laws.specs.State.{State}
+use Rattle.archive_forms_laws.specs.Spelling.{Spelling}
+use Rattle.archive_forms_laws.specs.Serializing.{IsAt, HasState}
+use Rattle.archive_forms_laws.specs.Regions.{state_after_all}
+use Rattle.archive_shape_canonical.specs.Packed.{child_items}
 use Rattle.archive_btree_spelling.specs.Parted.{shares, between}
 use Rattle.archive_btree_writing.specs.Built.{IsBuilt}
-use Rattle.archive_forms_values.specs.FormsLaws.Taking.{MayGiveAll, GivesAs}
+use Rattle.archive_forms_laws.specs.Taking.{MayGiveAll, GivesAs}
 use Rattle.archive_btree_writing.proofs.Taken.{Yields-append, Yields-more, Yields-seen, may_give_more}
 use Rattle.archive_btree_writing.proofs.Parting.{shares_more, between_more}
 use Rattle.archive_btree_writing.proofs.Rooted.{Rooted, rooted_none, rooted_more}

@@ -1,12 +1,12 @@
 -- A part of each entry, the key or the value, whose own bytes are written side by side.
 use Rattle.std.proofs.Common.{◌≡◌, ℕ, suc, ◌+◌, ◌-◌, ◌*◌, ◌^◌, ◌≤◌, ◌<◌, min, List, length, get_or, arith, ap, sym, subst, ◌∙◌, mul-le-mul_right}
-use Rattle.archive_shape.specs.ShapeLayout.Shape.{Shape, size_of}
+use Rattle.archive_shape_layout.specs.Shape.{Shape, size_of}
 use Rattle.archive_shape.specs.Bytes.{HasBytes, zeros, overwrite}
-use Rattle.archive_shape_writing.specs.declared.error.Error.{Error}
-use Rattle.archive_forms_values.specs.FormsLaws.State.{State}
-use Rattle.archive_forms_values.specs.FormsLaws.Spelling.{Spelling, state_after}
-use Rattle.archive_forms_values.specs.FormsLaws.Regions.{resolvers}
-use Rattle.archive_forms_values.specs.FormsLaws.Serializing.{CanResolve}
+use Rattle.archive_shape_layout.specs.declared.error.Error.{Error}
+use Rattle.archive_forms_laws.specs.State.{State}
+use Rattle.archive_forms_laws.specs.Spelling.{Spelling, state_after}
+use Rattle.archive_forms_laws.specs.Regions.{resolvers}
+use Rattle.archive_forms_laws.specs.Serializing.{CanResolve}
 use Rattle.archive_forms_writing.proofs.Loops.{length-resolvers}
 use Rattle.archive_btree_spelling.specs.Written.{slots, AllSlots, AnySlot}
 use Rattle.archive_btree_writing.proofs.Slots.{state_before, Laid, laid_none, laid_length, laid_zero, laid_next, laid_refused, laid_all, kept_at}

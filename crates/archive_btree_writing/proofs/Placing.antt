@@ -2,20 +2,20 @@
 use Rattle.std.proofs.Common.{◌≡◌, ℕ, ◌+◌, ◌-◌, ◌^◌, ◌≤◌, ◌<◌, min, List, ◌++◌, length, refl, sym, ap, subst, ◌∙◌, arith, inl, inr, Ok, Err, ◌⊎◌}
 use Rattle.std.specs.Prelude.{Result, ⊤}
 use Rattle.std.proofs.lemmas.List.{length-replicate}
-use Rattle.archive_shape.specs.ShapeLayout.Bytes.{align_up}
-use Rattle.archive_shape.specs.ShapeLayout.Shape.{Shape, align_of}
-use Rattle.archive_shape.specs.ShapeLayout.Content.{link_node_align}
-use Rattle.archive_shape.proofs.ShapeLayout.Framed.{le_align_up}
-use Rattle.archive_forms_values.specs.ShapeCanonical.FirstFit.{first_fit}
+use Rattle.archive_shape_layout.specs.Bytes.{align_up}
+use Rattle.archive_shape_layout.specs.Shape.{Shape, align_of}
+use Rattle.archive_shape_layout.specs.Content.{link_node_align}
+use Rattle.archive_shape_layout.proofs.Framed.{le_align_up}
+use Rattle.archive_shape_canonical.specs.FirstFit.{first_fit}
 use Rattle.archive_shape.specs.Bytes.{zeros}
-use Rattle.archive_shape_writing.specs.Writing.{WriterMembers, Writes}
-use Rattle.archive_shape_writing.specs.declared.error.Error.{Error}
-use Rattle.archive_shape_writing.specs.declared.error.Error.TheVariants.{PositionTooLarge}
-use Rattle.archive_forms_values.specs.FormsLaws.State.{State, visit_of_key}
-use Rattle.archive_forms_values.specs.FormsLaws.Spelling.{Spelling}
-use Rattle.archive_forms_values.specs.FormsLaws.Regions.{pieces, pieces_fit, pieces_refused}
-use Rattle.archive_forms_values.specs.FormsLaws.Serializing.{IsAt, Lays, LaysData, of_data, progress_by, is_begun}
-use Rattle.archive_forms_values.proofs.FormsLaws.Regions.{state_after_all_begun}
+use Rattle.archive_shape_layout.specs.Writing.{WriterMembers, Writes}
+use Rattle.archive_shape_layout.specs.declared.error.Error.{Error}
+use Rattle.archive_shape_layout.specs.declared.error.Error.TheVariants.{PositionTooLarge}
+use Rattle.archive_forms_laws.specs.State.{State, visit_of_key}
+use Rattle.archive_forms_laws.specs.Spelling.{Spelling}
+use Rattle.archive_forms_laws.specs.Regions.{pieces, pieces_fit, pieces_refused}
+use Rattle.archive_forms_laws.specs.Serializing.{IsAt, Lays, LaysData, of_data, progress_by, is_begun}
+use Rattle.archive_forms_laws.proofs.Regions.{state_after_all_begun}
 use Rattle.archive_forms_writing.proofs.Laying.{Wrote, Fails, Stops, wrote_both, writes_lays, stopped_after, stopped_first, stopped_before, as_data, stops_as_data}
 use Rattle.archive_btree_writing.specs.Nodes.{LaysBehind}
 use Rattle.archive_btree_spelling.specs.Laying.{state_after_node}

@@ -2,11 +2,11 @@
 use Rattle.std.proofs.Common.{◌≡◌, ℕ, ◌+◌, ◌*◌, ◌≤◌, ◌∙◌, arith, length, length-append, append_assoc, append-nil, List, [], ◌∷◌, ◌++◌, Option, Ok, Err, refl, sym, subst, ap, inl, inr}
 use Rattle.std.specs.Prelude.{Result, MatchResult}
 use Rattle.archive_shape.specs.Bytes.{overwrite}
-use Rattle.archive_shape_writing.specs.declared.error.Error.{Error}
-use Rattle.archive_forms_values.specs.FormsLaws.State.{State, initial}
-use Rattle.archive_forms_values.specs.FormsLaws.Links.{link_bytes, LinkFits, LinkRefused}
+use Rattle.archive_shape_layout.specs.declared.error.Error.{Error}
+use Rattle.archive_forms_laws.specs.State.{State, initial}
+use Rattle.archive_forms_laws.specs.Links.{link_bytes, LinkFits, LinkRefused}
 use Rattle.archive_btree_spelling.specs.Written.{slots, AllSlots, AnySlot, links, LinksFit, LinksRefused}
-use Rattle.archive_forms_values.proofs.FormsLaws.Links.{length-link}
+use Rattle.archive_forms_laws.proofs.Links.{length-link}
 use Rattle.archive_forms_values.proofs.Joined.{overwrites_joined}
 use Rattle.archive_btree_writing.proofs.Slots.{Laid}
 

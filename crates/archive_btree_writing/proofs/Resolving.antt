@@ -1,15 +1,15 @@
 -- The parts of a node, which are written one after the other over zeros.
 use Rattle.std.proofs.Common.{◌≡◌, ℕ, ◌+◌, ◌-◌, ◌*◌, ◌^◌, ◌≤◌, ◌<◌, set, List, [], ◌∷◌, ◌++◌, length, refl, arith, length-append, ap, ap₂, sym, subst, ◌∙◌, inl, inr, Some, None, Option, Ok, Err}
 use Rattle.std.specs.Prelude.{Result, MatchResult}
-use Rattle.archive_shape.specs.ShapeLayout.Shape.{Shape, size_of}
-use Rattle.archive_shape.specs.ShapeLayout.Content.{keys_offset, values_offset, links_offset, link_node_size, words_of}
+use Rattle.archive_shape_layout.specs.Shape.{Shape, size_of}
+use Rattle.archive_shape_layout.specs.Content.{keys_offset, values_offset, links_offset, link_node_size, words_of}
 use Rattle.archive_shape.specs.Bytes.{zeros, overwrite}
-use Rattle.archive_shape_writing.specs.declared.error.Error.{Error}
-use Rattle.archive_forms_values.specs.FormsLaws.State.{State}
-use Rattle.archive_forms_values.specs.FormsLaws.Spelling.{Spelling, state_after}
+use Rattle.archive_shape_layout.specs.declared.error.Error.{Error}
+use Rattle.archive_forms_laws.specs.State.{State}
+use Rattle.archive_forms_laws.specs.Spelling.{Spelling, state_after}
 use Rattle.archive_btree_spelling.specs.Written.{slots, AllSlots, AnySlot, filled, entry_spelling, key_own, value_own, own_bytes, words, slots_fit, slots_refused, LinksFit, LinksRefused}
-use Rattle.archive_btree_nodes.specs.declared.layout.NodeLayout.{NodeLayout}
-use Rattle.archive_btree_nodes.specs.Layout.{IsNodeLayout}
+use Rattle.archive_btree_maps.specs.declared.nodes.layout.NodeLayout.{NodeLayout}
+use Rattle.archive_btree_maps.specs.Layout.{IsNodeLayout}
 use Rattle.archive_btree_writing.specs.declared.children.Children.{Children}
 use Rattle.archive_btree_writing.specs.Nodes.{children_of, kind_of, roots_of, node_of, AreChildren, words_behind, words_size}
 use Rattle.archive_btree_writing.proofs.Slots.{length-slots}

@@ -1,13 +1,13 @@
 -- Nodes that are written after what is below their pointers.
 use Rattle.std.proofs.Common.{◌≡◌, ℕ, ◌+◌, ◌<◌, List, [], ◌∷◌, ◌++◌, length, append-nil, length-append, Option, Some, Ok, Err, refl, ap, sym, subst, ◌∙◌, inl, inr, ◌⊎◌, arith}
-use Rattle.archive_shape.specs.ShapeLayout.Shape.{Shape}
-use Rattle.archive_shape_writing.specs.Writing.{WriterMembers}
-use Rattle.archive_shape_writing.specs.declared.error.Error.{Error}
-use Rattle.archive_shape_writing.proofs.Joined.{written_none, written_both}
-use Rattle.archive_forms_values.specs.FormsLaws.State.{State, advanced}
-use Rattle.archive_forms_values.specs.FormsLaws.Spelling.{Spelling, state_after}
-use Rattle.archive_forms_values.specs.FormsLaws.Serializing.{IsAt, Serializes}
-use Rattle.archive_forms_values.specs.FormsLaws.Regions.{state_after_all, pieces, resolvers, pieces_fit, pieces_refused}
+use Rattle.archive_shape_layout.specs.Shape.{Shape}
+use Rattle.archive_shape_layout.specs.Writing.{WriterMembers}
+use Rattle.archive_shape_layout.specs.declared.error.Error.{Error}
+use Rattle.archive_shape_layout.proofs.Joined.{written_none, written_both}
+use Rattle.archive_forms_laws.specs.State.{State, advanced}
+use Rattle.archive_forms_laws.specs.Spelling.{Spelling, state_after}
+use Rattle.archive_forms_laws.specs.Serializing.{IsAt, Serializes}
+use Rattle.archive_forms_laws.specs.Regions.{state_after_all, pieces, resolvers, pieces_fit, pieces_refused}
 use Rattle.archive_btree_spelling.specs.Parted.{Parted, parted}
 use Rattle.archive_btree_spelling.specs.Written.{own_piece, own_refused, linked, node_piece, node_at, node_fits, node_refused, state_after_entries, tree_spelling}
 use Rattle.archive_btree_spelling.specs.Laying.{LaysNode}

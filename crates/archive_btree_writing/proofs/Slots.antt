@@ -3,9 +3,9 @@ use Rattle.std.proofs.Common.{◌≡◌, ℕ, zero, suc, ◌+◌, ◌*◌, ◌�
 use Rattle.std.proofs.lemmas.List.{length-take, take_all}
 use Rattle.archive_shape.specs.Bytes.{HasBytes, zeros, overwrite}
 use Rattle.archive_shape.proofs.Written.{length-overwrite}
-use Rattle.archive_forms_values.specs.FormsLaws.State.{State}
-use Rattle.archive_forms_values.specs.FormsLaws.Spelling.{Spelling, state_after}
-use Rattle.archive_forms_values.specs.FormsLaws.Regions.{resolvers}
+use Rattle.archive_forms_laws.specs.State.{State}
+use Rattle.archive_forms_laws.specs.Spelling.{Spelling, state_after}
+use Rattle.archive_forms_laws.specs.Regions.{resolvers}
 use Rattle.archive_forms_values.proofs.Joined.{overwrites_joined}
 use Rattle.archive_forms_writing.proofs.Joining.{still_zero, unfilled}
 use Rattle.archive_btree_spelling.specs.Written.{slots, AllSlots, AnySlot}

@@ -2,7 +2,7 @@
 use Rattle.std.proofs.Common.{List, [], ◌∷◌, Option, All}
 use Rattle.std.proofs.lemmas.List.Elements.{All-nil, All-cons}
 use Rattle.std.specs.Iterator.{Yields}
-use Rattle.archive_forms_values.specs.FormsLaws.Taking.{MayGiveAll, TakesEach}
+use Rattle.archive_forms_laws.specs.Taking.{MayGiveAll, TakesEach}
 use Rattle.archive_btree_writing.proofs.Taken.{may_give_later}
 
 module _ {I T : Type 0} (gives : I → Option T → I → Type 0) (takes : T → Type 0) (from : I) (t : TakesEach gives takes from) where

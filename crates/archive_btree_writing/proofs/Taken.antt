@@ -3,7 +3,7 @@ use Rattle.std.proofs.Common.{◌≡◌, ℕ, suc, ◌+◌, ◌<◌, List, [], �
 use Rattle.std.specs.Prelude.{Result, MatchResult}
 use Rattle.std.proofs.Math.Seq.{take-suc-set}
 use Rattle.std.specs.Iterator.{Yields}
-use Rattle.archive_forms_values.specs.FormsLaws.Taking.{MayGive, MayGiveAll, GivesAs}
+use Rattle.archive_forms_laws.specs.Taking.{MayGive, MayGiveAll, GivesAs}
 
 module _ {I T : Type 0} (gives : I → Option T → I → Type 0) where
   pub Yields-append : (s t u : I) (xs ys : List T) → Yields gives s xs t → Yields gives t ys u → Yields gives s (xs ++ ys) u

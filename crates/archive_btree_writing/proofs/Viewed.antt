@@ -3,17 +3,17 @@ use Rattle.std.proofs.Common.{◌≡◌, ℕ, zero, suc, ◌+◌, ◌-◌, List,
 use Rattle.std.proofs.lemmas.List.{length-map}
 use Rattle.std.specs.Prelude.{Result}
 use Rattle.std.specs.Int.{w32, to_le_bytes}
-use Rattle.archive_shape.specs.ShapeLayout.Bytes.{align_up}
-use Rattle.archive_shape.specs.ShapeLayout.Shape.{Shape, size_of}
-use Rattle.archive_shape.specs.ShapeLayout.Content.{link_node_align, keys_offset, values_offset, links_offset}
+use Rattle.archive_shape_layout.specs.Bytes.{align_up}
+use Rattle.archive_shape_layout.specs.Shape.{Shape, size_of}
+use Rattle.archive_shape_layout.specs.Content.{link_node_align, keys_offset, values_offset, links_offset}
 use Rattle.archive_shape.specs.Bytes.{zeros}
-use Rattle.archive_shape_writing.specs.Writing.{WriterMembers}
-use Rattle.archive_shape_writing.specs.declared.error.Error.{Error}
-use Rattle.archive_forms_values.specs.FormsLaws.State.{State, advanced}
-use Rattle.archive_forms_values.specs.FormsLaws.Spelling.{Spelling, state_after}
-use Rattle.archive_forms_values.specs.FormsLaws.Forms.{seen_as}
-use Rattle.archive_forms_values.specs.FormsLaws.Regions.{state_after_all, pieces, pieces_fit, pieces_refused}
-use Rattle.archive_forms_values.specs.FormsLaws.Serializing.{of_data, IsAt}
+use Rattle.archive_shape_layout.specs.Writing.{WriterMembers}
+use Rattle.archive_shape_layout.specs.declared.error.Error.{Error}
+use Rattle.archive_forms_laws.specs.State.{State, advanced}
+use Rattle.archive_forms_laws.specs.Spelling.{Spelling, state_after}
+use Rattle.archive_forms_laws.specs.Forms.{seen_as}
+use Rattle.archive_forms_laws.specs.Regions.{state_after_all, pieces, pieces_fit, pieces_refused}
+use Rattle.archive_forms_laws.specs.Serializing.{of_data, IsAt}
 use Rattle.archive_forms_writing.proofs.Laying.{Wrote, Stops, stopped_first}
 use Rattle.archive_btree_spelling.specs.Laying.{LaysNode, state_after_node}
 use Rattle.archive_btree_spelling.specs.Written.{Linked, entry_spelling, slots, AllSlots, AnySlot, filled, key_own, value_own, words, state_after_own, own_at, own_size, own_bytes, own_piece, IsPlaced, slots_fit, slots_refused, own_fits, own_refused}

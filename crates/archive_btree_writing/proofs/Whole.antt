@@ -3,18 +3,18 @@ use Rattle.std.proofs.Common.{◌≡◌, ℕ, suc, ◌+◌, ◌-◌, ◌*◌, �
 use Rattle.std.proofs.lemmas.List.{length-map, take-append-le}
 use Rattle.std.proofs.Math.Nat.{pow-succ'}
 use Rattle.std.specs.Iterator.{Yields, Drains}
-use Rattle.archive_shape.specs.ShapeLayout.Shape.{Shape}
-use Rattle.archive_shape_writing.specs.Writing.{WriterMembers}
-use Rattle.archive_shape_writing.specs.declared.error.Error.{Error}
-use Rattle.archive_shape_writing.specs.declared.error.Error.TheVariants.{IteratorLengthMismatch}
-use Rattle.archive_forms_values.specs.FormsLaws.State.{State}
-use Rattle.archive_forms_values.specs.FormsLaws.Spelling.{Spelling}
-use Rattle.archive_forms_values.specs.FormsLaws.Serializing.{Serializes}
-use Rattle.archive_forms_values.specs.ShapeCanonical.Packed.{levels_for}
+use Rattle.archive_shape_layout.specs.Shape.{Shape}
+use Rattle.archive_shape_layout.specs.Writing.{WriterMembers}
+use Rattle.archive_shape_layout.specs.declared.error.Error.{Error}
+use Rattle.archive_shape_layout.specs.declared.error.Error.TheVariants.{IteratorLengthMismatch}
+use Rattle.archive_forms_laws.specs.State.{State}
+use Rattle.archive_forms_laws.specs.Spelling.{Spelling}
+use Rattle.archive_forms_laws.specs.Serializing.{Serializes}
+use Rattle.archive_shape_canonical.specs.Packed.{levels_for}
 use Rattle.archive_btree_spelling.specs.Maps.{packed_spelling, btree_spelling}
 use Rattle.archive_btree_spelling.proofs.Counts.{levels_between}
 use Rattle.archive_btree_writing.specs.Built.{IsBuilt, IsShort, IsCutShort, IsExceeded}
-use Rattle.archive_forms_values.specs.FormsLaws.Taking.{GivesAs}
+use Rattle.archive_forms_laws.specs.Taking.{GivesAs}
 use Rattle.archive_btree_writing.proofs.Taken.{Yields-append, Yields-as}
 use Rattle.archive_btree_writing.proofs.BuildingLaying.{Stops, stops_first}
 

@@ -1,7 +1,7 @@
 -- How many items lie below each pointer of an inner node, by the number of places that the last level has.
 use Rattle.std.proofs.Common.{◌≡◌, ◌∙◌, ℕ, zero, suc, ◌+◌, ◌-◌, ◌*◌, ◌/◌, ◌^◌, ◌<◌, ◌≤◌, min, ap, sym, subst, arith}
 use Rattle.std.proofs.Math.Nat.{pow-zero, pow-succ', one-le-pow, mul-div_cancel_left, mul-le-mul_right}
-use Rattle.archive_forms_values.specs.ShapeCanonical.Packed.{child_items}
+use Rattle.archive_shape_canonical.specs.Packed.{child_items}
 use Rattle.archive_btree_spelling.proofs.Counts.{child_by_counts}
 
 -- the last level of a tree has places

@@ -1,15 +1,15 @@
 -- What calls guarantee that write search trees of entries which an iterator yields.
 use Rattle.std.specs.Prelude.{◌≡◌, ℕ, ◌+◌, ◌-◌, ◌^◌, ◌<◌, ◌≤◌, ◌⊎◌, min, List, ◌++◌, length, take, Option, Some, None, Result, Ok, Err, MatchResult}
 use Rattle.std.specs.Iterator.{Yields, Drains}
-use Rattle.archive_shape.specs.ShapeLayout.Shape.{Shape}
-use Rattle.archive_shape_writing.specs.Writing.{WriterMembers}
-use Rattle.archive_shape_writing.specs.declared.error.Error.{Error}
-use Rattle.archive_shape_writing.specs.declared.error.Error.TheVariants.{IteratorLengthMismatch}
-use Rattle.archive_forms_values.specs.FormsLaws.State.{State}
-use Rattle.archive_forms_values.specs.FormsLaws.Spelling.{Spelling}
-use Rattle.archive_forms_values.specs.FormsLaws.Serializing.{IsAt, LaysData, Serializes}
+use Rattle.archive_shape_layout.specs.Shape.{Shape}
+use Rattle.archive_shape_layout.specs.Writing.{WriterMembers}
+use Rattle.archive_shape_layout.specs.declared.error.Error.{Error}
+use Rattle.archive_shape_layout.specs.declared.error.Error.TheVariants.{IteratorLengthMismatch}
+use Rattle.archive_forms_laws.specs.State.{State}
+use Rattle.archive_forms_laws.specs.Spelling.{Spelling}
+use Rattle.archive_forms_laws.specs.Serializing.{IsAt, LaysData, Serializes}
 use Rattle.archive_btree_spelling.specs.Maps.{packed_spelling, btree_spelling}
-use Rattle.archive_forms_values.specs.FormsLaws.Taking.{GivesAs}
+use Rattle.archive_forms_laws.specs.Taking.{GivesAs}
 
 module _ {C R W I : Type 0} (w : Spelling (List C) R) (members : WriterMembers W) (gives : I → Option C → I → Type 0) where
   -- n items came, and were written

@@ -1,11 +1,11 @@
 //! The own bytes of the entries of a node, whose data is written.
 ghost use Rattle.std.specs.Prelude.{◌≡◌, ℕ, ◌+◌, ◌*◌, ◌^◌, ◌<◌, ◌≤◌, length, MatchResult};
-ghost use Rattle.archive_shape.specs.ShapeLayout.Shape.{size_of};
+ghost use Rattle.archive_shape_layout.specs.Shape.{size_of};
 ghost use Rattle.archive_shape.specs.Bytes.{HasBytes, zeros, overwrite};
-ghost use Rattle.archive_forms_values.specs.FormsLaws.State.{State};
-ghost use Rattle.archive_forms_values.specs.FormsLaws.Spelling.{state_after};
-ghost use Rattle.archive_forms_values.specs.FormsLaws.Serializing.{CanResolve, Resolves};
-ghost use Rattle.archive_forms_values.specs.FormsLaws.Regions.{resolvers};
+ghost use Rattle.archive_forms_laws.specs.State.{State};
+ghost use Rattle.archive_forms_laws.specs.Spelling.{state_after};
+ghost use Rattle.archive_forms_laws.specs.Serializing.{CanResolve, Resolves};
+ghost use Rattle.archive_forms_laws.specs.Regions.{resolvers};
 ghost use Rattle.archive_btree_spelling.specs.Written.{slots, AllSlots, AnySlot, key_own, value_own};
 ghost use Rattle.archive_btree_writing.specs.Nodes.{borrowed, borrowed_entry};
 

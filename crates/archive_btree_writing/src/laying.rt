@@ -1,14 +1,13 @@
 //! Writing nodes with the data of their entries.
 ghost use Rattle.std.specs.Prelude.{◌≡◌, ℕ, ◌-◌, ◌^◌, ◌<◌, ◌≤◌, [], ◌∷◌, ◌++◌, All, length, map};
 ghost use Rattle.std.specs.Map.Iter.{deref_pair};
-ghost use Rattle.archive_forms_values.specs.FormsLaws.Serializing.{HasState};
+ghost use Rattle.archive_forms_laws.specs.Serializing.{HasState};
 ghost use Rattle.archive_btree_spelling.specs.Laying.{LaysNode};
 ghost use Rattle.archive_btree_writing.specs.Nodes.{leaf_of, inner_of, node_of, AreChildren};
 
 use crate::children::Children;
 use crate::nodes::write_behind;
-use archive_forms_borrowed::EntryStep;
-use archive_forms_writing::{Archive, ArchiveWith};
+use archive_forms_writing::{Archive, ArchiveWith, EntryStep};
 use archive_shape::{Allocator, Error, Writer};
 
 /// The greatest size in bytes of an option of the resolvers of an entry, so that those of a node have fewer than 2^63

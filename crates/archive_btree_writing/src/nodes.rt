@@ -1,20 +1,20 @@
 //! Writing nodes after the data of their entries.
 ghost use Rattle.std.specs.Prelude.{◌≡◌, ℕ, ◌+◌, ◌-◌, ◌^◌, ◌<◌, ◌≤◌, length, IfOk, MatchResult};
-ghost use Rattle.archive_shape.specs.ShapeLayout.Content.{words_of, link_node_size};
+ghost use Rattle.archive_shape_layout.specs.Content.{words_of, link_node_size};
 ghost use Rattle.archive_shape.specs.Bytes.{zeros};
-ghost use Rattle.archive_shape_writing.specs.declared.error.Error.TheVariants.{PositionTooLarge};
-ghost use Rattle.archive_forms_values.specs.FormsLaws.State.{State};
-ghost use Rattle.archive_forms_values.specs.FormsLaws.Serializing.{Lays};
-ghost use Rattle.archive_forms_values.specs.FormsLaws.Regions.{resolvers};
+ghost use Rattle.archive_shape_layout.specs.declared.error.Error.TheVariants.{PositionTooLarge};
+ghost use Rattle.archive_forms_laws.specs.State.{State};
+ghost use Rattle.archive_forms_laws.specs.Serializing.{Lays};
+ghost use Rattle.archive_forms_laws.specs.Regions.{resolvers};
 ghost use Rattle.archive_btree_spelling.specs.Written.{own_size, own_bytes, slots_fit, slots_refused};
-ghost use Rattle.archive_btree_nodes.specs.Layout.{IsNodeLayout};
+ghost use Rattle.archive_btree_maps.specs.Layout.{IsNodeLayout};
 ghost use Rattle.archive_btree_writing.specs.Nodes.{borrowed, borrowed_entry, kind_of, node_of, AreChildren, LaysBehind};
 ghost use Rattle.archive_forms_values.specs.Claims.{as_usize};
 
 use crate::children::Children;
 use crate::entries::{resolve_keys, resolve_values};
 use crate::words::store_words;
-use archive_btree_nodes::NodeLayout;
+use archive_btree_maps::nodes::NodeLayout;
 use archive_forms_writing::{Archive, ArchiveWith, align};
 use archive_shape::{Allocator, Error, Portable, Writer};
 

@@ -3,7 +3,7 @@ ghost use Rattle.std.specs.Prelude.{◌≡◌, ◌+◌, ◌*◌, ◌^◌, ◌<�
 ghost use Rattle.archive_shape.specs.Bytes.{HasBytes, zeros, overwrite};
 ghost use Rattle.std.specs.Int.{w32, to_le_bytes};
 ghost use Rattle.archive_btree_writing.specs.Nodes.{children_of, roots_of, words_behind, words_size};
-ghost use Rattle.archive_forms_values.specs.FormsLaws.Links.{link_bytes, LinkFits, LinkRefused};
+ghost use Rattle.archive_forms_laws.specs.Links.{link_bytes, LinkFits, LinkRefused};
 ghost use Rattle.archive_btree_spelling.specs.Written.{links, LinksFit, LinksRefused};
 
 use crate::children::Children;

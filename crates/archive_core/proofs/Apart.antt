@@ -6,9 +6,9 @@ use Rattle.archive_shape_layout.specs.Content.{Names}
 use Rattle.archive_shape_layout.specs.Holds.{Visit}
 use Rattle.archive_shape_canonical.specs.Settled.{Fit}
 use Rattle.archive_shape_canonical.specs.FirstFit.{first_fit}
-use Rattle.archive_forms_values.specs.FormsLaws.State.{Met, AllBefore, AreDescending, visit_of_key}
-use Rattle.archive_forms_values.specs.FormsLaws.Spelling.{Spelling}
-use Rattle.archive_forms_values.specs.FormsLaws.Spells.{Spells}
+use Rattle.archive_forms_laws.specs.State.{Met, AllBefore, AreDescending, visit_of_key}
+use Rattle.archive_forms_laws.specs.Spelling.{Spelling}
+use Rattle.archive_forms_laws.specs.Spells.{Spells}
 use Rattle.archive_core.specs.Laws.{KeysStandApart}
 
 -- the value of a key is the first of the values, or is found among the others

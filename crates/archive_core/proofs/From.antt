@@ -11,14 +11,14 @@ use Rattle.archive_shape_canonical.specs.Settled.{Fit}
 use Rattle.archive_shape_canonical.specs.Canonical.{CanonicalArchive, AreBytes}
 use Rattle.archive_shape.specs.Bytes.{HasBytes}
 use Rattle.archive_shape_layout.proofs.Evaluated.{ascends_lowered}
-use Rattle.archive_forms_values.specs.FormsLaws.State.{State, Keys, IsConsistent, visits_of}
-use Rattle.archive_forms_values.specs.FormsLaws.Spelling.{Spelling}
-use Rattle.archive_forms_values.specs.FormsLaws.Spells.{Spells}
-use Rattle.archive_forms_values.specs.FormsLaws.Regions.{region_at}
-use Rattle.archive_forms_values.proofs.FormsLaws.Aligning.{starts_aligned}
-use Rattle.archive_forms_values.proofs.FormsLaws.Regions.{boxed_canonical, region_end, region_bytes}
-use Rattle.archive_forms_values.proofs.FormsLaws.Gaps.{bytes_append}
-use Rattle.archive_forms_values.proofs.FormsLaws.Written.{are_distinct}
+use Rattle.archive_forms_laws.specs.State.{State, Keys, IsConsistent, visits_of}
+use Rattle.archive_forms_laws.specs.Spelling.{Spelling}
+use Rattle.archive_forms_laws.specs.Spells.{Spells}
+use Rattle.archive_forms_laws.specs.Regions.{region_at}
+use Rattle.archive_forms_laws.proofs.Aligning.{starts_aligned}
+use Rattle.archive_forms_laws.proofs.Regions.{boxed_canonical, region_end, region_bytes}
+use Rattle.archive_forms_laws.proofs.Gaps.{bytes_append}
+use Rattle.archive_forms_laws.proofs.Written.{are_distinct}
 use Rattle.archive_core.specs.Written.{from_position, IsWrittenFrom, root_piece, root_fits}
 
 pub written_from : {A R : Type 0} (fit : Fit) (s : Shape) (knows : Names → Type 0) (w : Spelling A R) (x : A) (names : Names) (keys : Keys) (front bytes : List ℕ) (start : ℕ)

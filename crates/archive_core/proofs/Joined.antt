@@ -4,8 +4,8 @@ use Rattle.archive_shape_layout.specs.Shape.{Shape}
 use Rattle.archive_shape_layout.specs.Value.{Value}
 use Rattle.archive_shape_layout.specs.Content.{Names}
 use Rattle.archive_shape_layout.specs.Holds.{root_position}
-use Rattle.archive_forms_values.specs.FormsLaws.Spelling.{Spelling}
-use Rattle.archive_core_validation.proofs.Rooted.{root_held}
+use Rattle.archive_forms_laws.specs.Spelling.{Spelling}
+use Rattle.archive_forms_values.proofs.Rooted.{root_held}
 use Rattle.archive_core_validation.proofs.Unlimited.{unlimited_law}
 use Rattle.archive_core.specs.Laws.{WrittenIsAccepted, ReadBackIsWritten}
 

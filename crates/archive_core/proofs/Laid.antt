@@ -2,13 +2,13 @@
 use Rattle.std.proofs.Common.{◌≡◌, ℕ, Ok, Err, inl, inr, ⊎_elim, refl, subst}
 use Rattle.std.specs.Prelude.{Result, MatchResult, ◌⊎◌}
 use Rattle.archive_shape_layout.specs.Shape.{Shape}
-use Rattle.archive_shape_writing.specs.Progress.{Progress}
-use Rattle.archive_shape_writing.specs.Progress.Progress.{unmet}
-use Rattle.archive_shape_writing.specs.Writing.{WriterMembers, Written, Failed}
-use Rattle.archive_shape_writing.specs.declared.error.Error.{Error}
-use Rattle.archive_forms_values.specs.FormsLaws.Spelling.{Spelling}
-use Rattle.archive_forms_values.specs.FormsLaws.Pointers.{box_spelling}
-use Rattle.archive_forms_values.specs.FormsLaws.Serializing.{Stopped, IsAt, Serializes}
+use Rattle.archive_shape_layout.specs.Progress.{Progress}
+use Rattle.archive_shape_layout.specs.Progress.Progress.{unmet}
+use Rattle.archive_shape_layout.specs.Writing.{WriterMembers, Written, Failed}
+use Rattle.archive_shape_layout.specs.declared.error.Error.{Error}
+use Rattle.archive_forms_laws.specs.Spelling.{Spelling}
+use Rattle.archive_forms_laws.specs.Pointers.{box_spelling}
+use Rattle.archive_forms_laws.specs.Serializing.{Stopped, IsAt, Serializes}
 use Rattle.archive_core.specs.Written.{from_position, root_piece, root_fits, root_refused}
 
 module _ {S W : Type 0} (out : S → W) (m : WriterMembers W) (known : S → ℕ → Progress ℕ) where

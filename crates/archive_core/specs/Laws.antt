@@ -5,8 +5,8 @@ use Rattle.archive_shape_layout.specs.Value.{Value}
 use Rattle.archive_shape_layout.specs.Content.{Names}
 use Rattle.archive_shape_layout.specs.Holds.{Visit, root_position}
 use Rattle.archive_shape_canonical.specs.Settled.{Fit}
-use Rattle.archive_forms_values.specs.FormsLaws.State.{State, Keys, IsConsistent, visit_of_key}
-use Rattle.archive_forms_values.specs.FormsLaws.Spelling.{Spelling}
+use Rattle.archive_forms_laws.specs.State.{State, Keys, IsConsistent, visit_of_key}
+use Rattle.archive_forms_laws.specs.Spelling.{Spelling}
 use Rattle.archive_forms.specs.Deserializing.{IsReadAt}
 use Rattle.archive_core_validation.specs.Depth.{unlimited}
 use Rattle.archive_core_validation.specs.Access.{IsAccepted}

@@ -6,14 +6,14 @@ use Rattle.archive_shape_layout.specs.Holds.{Region, Visit, HasRoot, root_positi
 use Rattle.archive_shape_canonical.specs.Settled.{Fit}
 use Rattle.archive_shape_canonical.specs.Sharing.{erased}
 use Rattle.archive_shape_canonical.specs.Canonical.{CanonicalArchive, AreBytes}
-use Rattle.archive_shape_writing.specs.Writing.{WriterMembers, Written, Failed}
-use Rattle.archive_shape_writing.specs.Progress.Progress.{unmet}
-use Rattle.archive_shape_writing.specs.declared.error.Error.{Error}
-use Rattle.archive_shape_writing.specs.declared.error.Error.TheVariants.{OutOfMemory}
-use Rattle.archive_forms_values.specs.FormsLaws.State.{State, Keys, AreOneToOne}
-use Rattle.archive_forms_values.specs.FormsLaws.Spelling.{Spelling}
-use Rattle.archive_forms_values.specs.FormsLaws.Regions.{region_piece, region_fits, region_refused}
-use Rattle.archive_forms_values.specs.FormsLaws.Serializing.{Stopped}
+use Rattle.archive_shape_layout.specs.Writing.{WriterMembers, Written, Failed}
+use Rattle.archive_shape_layout.specs.Progress.Progress.{unmet}
+use Rattle.archive_shape_layout.specs.declared.error.Error.{Error}
+use Rattle.archive_shape_layout.specs.declared.error.Error.TheVariants.{OutOfMemory}
+use Rattle.archive_forms_laws.specs.State.{State, Keys, AreOneToOne}
+use Rattle.archive_forms_laws.specs.Spelling.{Spelling}
+use Rattle.archive_forms_laws.specs.Regions.{region_piece, region_fits, region_refused}
+use Rattle.archive_forms_laws.specs.Serializing.{Stopped}
 
 -- the next byte has this position, and no shared value was written
 abbrev pub from_position : ℕ → State

@@ -9,6 +9,7 @@ mod reading;
 
 pub use archive_core_serializing::Buffer;
 pub use archive_core_serializing::ExactClone;
+pub use archive_core_serializing::HighDeserializer;
 pub use archive_core_serializing::HighSerializer;
 pub use archive_core_serializing::Pool;
 pub use archive_core_serializing::PoolingExt;

@@ -2,10 +2,10 @@
 use Rattle.std.proofs.Common.{◌≡◌, ℕ, Bool, true, false, Result, Ok, Err, refl, sym, ap, subst}
 use denote.Ref.{MutBor}
 use denote.Param.Members.{Once}
-use Rattle.archive_shape_writing.specs.Progress.{Progress, IsSet, Finishes}
-use Rattle.archive_shape_writing.specs.Progress.Progress.{unmet, begun, ended}
-use Rattle.archive_shape_writing.specs.declared.error.Error.{Error}
-use Rattle.archive_shape_writing.specs.declared.error.Error.TheVariants.{AlreadyFinished, NotStarted}
+use Rattle.archive_shape_layout.specs.Progress.{Progress, IsSet, Finishes}
+use Rattle.archive_shape_layout.specs.Progress.Progress.{unmet, begun, ended}
+use Rattle.archive_shape_layout.specs.declared.error.Error.{Error}
+use Rattle.archive_shape_layout.specs.declared.error.Error.TheVariants.{AlreadyFinished, NotStarted}
 use Rattle.archive_shape.specs.declared.pooling.PoolingState.TheVariants.{Started}
 use Rattle.archive_shape.specs.Pooling.{StartsPooling, FinishesPooling}
 use Rattle.archive_core_serializing.specs.Shared.{Makes, KeepsMade, ReadsAnew, ReadsOnce}

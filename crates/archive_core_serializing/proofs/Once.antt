@@ -1,19 +1,19 @@
 -- What a serializer does for a shared value, by what is known of its key.
 use Rattle.std.proofs.Common.{◌≡◌, ℕ, ◌+◌, ◌==◌, cond, true, List, [], ◌∷◌, ◌++◌, length, refl, sym, ap, ap₂, subst, ◌∙◌, inl, inr, Ok, Err, Option, Some, None, append-nil, add-zero, eq-eqb}
 use Rattle.std.specs.Prelude.{Result}
-use Rattle.archive_shape.specs.ShapeLayout.Shape.{Pointee}
-use Rattle.archive_shape.specs.ShapeLayout.Holds.{Visit}
+use Rattle.archive_shape_layout.specs.Shape.{Pointee}
+use Rattle.archive_shape_layout.specs.Holds.{Visit}
 use Rattle.archive_shape.specs.Bytes.{zeros}
-use Rattle.archive_shape_writing.specs.Writing.{WriterMembers}
-use Rattle.archive_shape_writing.specs.Progress.{Progress, IsSet, Starts, Finishes}
-use Rattle.archive_shape_writing.specs.Progress.Progress.{unmet, begun, ended}
-use Rattle.archive_shape_writing.specs.declared.error.Error.{Error}
-use Rattle.archive_shape_writing.specs.declared.error.Error.TheVariants.{CyclicSharedPointer, AlreadyFinished, NotStarted}
-use Rattle.archive_forms_writing.specs.FormsLaws.State.{State, Met, advanced, with_begun, visit_of_key, IsNoneOf}
-use Rattle.archive_forms_writing.specs.FormsLaws.Spelling.{Spelling, state_after}
-use Rattle.archive_forms_writing.specs.FormsLaws.Shared.{shared_padding, shared_piece, shared_resolver, shared_met, shared_fits, shared_refused, shared_spelling, first_at, first_piece, met_inside}
-use Rattle.archive_forms_writing.specs.FormsLaws.Serializing.{IsAt, LaysData, of_data, progress, progress_by, is_begun}
-use Rattle.archive_forms_writing.proofs.FormsLaws.Progress.{unmet_key, begun_key, ended_key, begins_in_state, ends_in_state, is_finished}
+use Rattle.archive_shape_layout.specs.Writing.{WriterMembers}
+use Rattle.archive_shape_layout.specs.Progress.{Progress, IsSet, Starts, Finishes}
+use Rattle.archive_shape_layout.specs.Progress.Progress.{unmet, begun, ended}
+use Rattle.archive_shape_layout.specs.declared.error.Error.{Error}
+use Rattle.archive_shape_layout.specs.declared.error.Error.TheVariants.{CyclicSharedPointer, AlreadyFinished, NotStarted}
+use Rattle.archive_forms_laws.specs.State.{State, Met, advanced, with_begun, visit_of_key, IsNoneOf}
+use Rattle.archive_forms_laws.specs.Spelling.{Spelling, state_after}
+use Rattle.archive_forms_laws.specs.Shared.{shared_padding, shared_piece, shared_resolver, shared_met, shared_fits, shared_refused, shared_spelling, first_at, first_piece, met_inside}
+use Rattle.archive_forms_laws.specs.Serializing.{IsAt, LaysData, of_data, progress, progress_by, is_begun}
+use Rattle.archive_forms_laws.proofs.Progress.{unmet_key, begun_key, ended_key, begins_in_state, ends_in_state, is_finished}
 use Rattle.archive_forms_writing.proofs.Laying.{Wrote, Stops, wrote_both, stopped_before, stopped_first, stopped_after, as_data, fails_as_data, Fails}
 
 module _ {A W : Type 0} (q : Pointee) (len : A → ℕ) (k : ℕ) (w : Spelling A ℕ) (m : WriterMembers W) (x : A) where

@@ -1,15 +1,15 @@
 -- The own bytes of a value, after the zeros up to their position.
 use Rattle.std.proofs.Common.{◌≡◌, ℕ, ◌-◌, ◌++◌, length, arith, ap, subst, refl, ◌∙◌}
 use Rattle.std.proofs.lemmas.List.{length-replicate}
-use Rattle.archive_shape.specs.ShapeLayout.Bytes.{align_up}
-use Rattle.archive_shape.specs.ShapeLayout.Shape.{Shape, align_of}
-use Rattle.archive_shape.proofs.ShapeLayout.Framed.{le_align_up}
+use Rattle.archive_shape_layout.specs.Bytes.{align_up}
+use Rattle.archive_shape_layout.specs.Shape.{Shape, align_of}
+use Rattle.archive_shape_layout.proofs.Framed.{le_align_up}
 use Rattle.archive_shape.specs.Bytes.{zeros}
-use Rattle.archive_shape_writing.specs.Writing.{WriterMembers}
-use Rattle.archive_shape_writing.specs.declared.error.Error.{Error}
-use Rattle.archive_shape_writing.proofs.Joined.{written_both}
-use Rattle.archive_forms_writing.specs.FormsLaws.Spelling.{Spelling}
-use Rattle.archive_forms_writing.specs.FormsLaws.Regions.{placed_fits, placed_refused}
+use Rattle.archive_shape_layout.specs.Writing.{WriterMembers}
+use Rattle.archive_shape_layout.specs.declared.error.Error.{Error}
+use Rattle.archive_shape_layout.proofs.Joined.{written_both}
+use Rattle.archive_forms_laws.specs.Spelling.{Spelling}
+use Rattle.archive_forms_laws.specs.Regions.{placed_fits, placed_refused}
 use Rattle.archive_forms_writing.proofs.Laying.{Wrote, Stops, stopped_after}
 
 module _ {A R W : Type 0} (w : Spelling A R) (sh : Shape) (s : WriterMembers W) (x : A) (r : R) (old mid new : W) (align : ℕ) (aligned : align ≡ align_of sh) (gap : Wrote s old mid (zeros (align_up (s.pos old) align - s.pos old))) where

@@ -1,8 +1,8 @@
 -- The effect of a write into memory of a fixed length, of which `len` bytes are filled.
 use Rattle.std.specs.Prelude.{◌≡◌, ℕ, ◌+◌, ◌<◌, ◌≤◌, List, length}
 use Rattle.archive_shape.specs.Bytes.{overwrite}
-use Rattle.archive_shape_writing.specs.declared.error.Error.{Error}
-use Rattle.archive_shape_writing.specs.declared.error.Error.TheVariants.{BufferOverflow}
+use Rattle.archive_shape_layout.specs.declared.error.Error.{Error}
+use Rattle.archive_shape_layout.specs.declared.error.Error.TheVariants.{BufferOverflow}
 
 module _ (old : List ℕ) (len : ℕ) (piece : List ℕ) (new : List ℕ) (new_len : ℕ) where
   -- the piece fits, and is after what is filled; what is after the piece stays

@@ -1,7 +1,7 @@
 -- What a map keeps of the progress of each number: nothing before it begins, and its outcome once it has ended.
 use Rattle.std.specs.Prelude.{◌≡◌, ℕ, Option, Some, None}
-use Rattle.archive_shape_writing.specs.Progress.{Progress}
-use Rattle.archive_shape_writing.specs.Progress.Progress.{unmet, begun, ended}
+use Rattle.archive_shape_layout.specs.Progress.{Progress}
+use Rattle.archive_shape_layout.specs.Progress.Progress.{unmet, begun, ended}
 
 module _ {A : Type 0} where
   abbrev pub progress_kept : Option (Option A) → Progress A

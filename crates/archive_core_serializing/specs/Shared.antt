@@ -2,10 +2,10 @@
 use Rattle.std.specs.Prelude.{◌≡◌, ◌≢◌, ℕ, Bool, true, false, Result, Ok, Err, MatchResult}
 use denote.Ref.{MutBor}
 use denote.Param.Members.{Once}
-use Rattle.archive_shape_writing.specs.Progress.{Progress, IsSame, IsSet}
-use Rattle.archive_shape_writing.specs.Progress.Progress.{unmet, begun, ended}
-use Rattle.archive_shape_writing.specs.declared.error.Error.{Error}
-use Rattle.archive_shape_writing.specs.declared.error.Error.TheVariants.{AlreadyFinished, CyclicSharedPointer, NotStarted, OutOfMemory}
+use Rattle.archive_shape_layout.specs.Progress.{Progress, IsSame, IsSet}
+use Rattle.archive_shape_layout.specs.Progress.Progress.{unmet, begun, ended}
+use Rattle.archive_shape_layout.specs.declared.error.Error.{Error}
+use Rattle.archive_shape_layout.specs.declared.error.Error.TheVariants.{AlreadyFinished, CyclicSharedPointer, NotStarted, OutOfMemory}
 use Rattle.archive_shape.specs.declared.pooling.PoolingState.TheVariants.{Started}
 use Rattle.archive_shape.specs.Pooling.{StartsPooling}
 

@@ -1,8 +1,8 @@
 //! `Buffer`, a writer over memory of a fixed length.
 ghost use Rattle.std.specs.Prelude.{◌≡◌, ◌+◌, ◌-◌, ◌^◌, ◌<◌, ◌≤◌, length, take, true, MatchResult};
-ghost use Rattle.archive_shape_writing.specs.Progress.Progress.{unmet};
-ghost use Rattle.archive_shape_writing.specs.Writing.{Appends};
-ghost use Rattle.archive_shape_writing.specs.declared.error.Error.TheVariants.{BufferOverflow};
+ghost use Rattle.archive_shape_layout.specs.Progress.Progress.{unmet};
+ghost use Rattle.archive_shape_layout.specs.Writing.{Appends};
+ghost use Rattle.archive_shape_layout.specs.declared.error.Error.TheVariants.{BufferOverflow};
 ghost use Rattle.archive_core_serializing.specs.Filling.{IsFilled, IsOverfull};
 
 use archive_shape::{Error, Positional, Registry, Writer};

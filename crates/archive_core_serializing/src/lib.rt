@@ -4,7 +4,7 @@
 
 mod shares;
 
-pub use shares::{ExactClone, Pool, PoolingExt, RcValue, Share, Unpool};
+pub use shares::{ExactClone, HighDeserializer, Pool, PoolingExt, RcValue, Share, Unpool};
 
 mod buffer;
 mod serializer;

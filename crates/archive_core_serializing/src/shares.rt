@@ -7,7 +7,7 @@ mod share;
 mod unpool;
 
 pub use exact::{ExactClone, RcValue};
-pub use pool::Pool;
+pub use pool::{HighDeserializer, Pool};
 pub use pooling_ext::PoolingExt;
 pub use share::Share;
 pub use unpool::Unpool;

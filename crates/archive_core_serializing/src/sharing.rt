@@ -1,12 +1,12 @@
 //! `SharingExt` for `Serializer`: shared values are written once for each key.
 ghost use Rattle.std.specs.Prelude.{◌-◌, ◌^◌, ◌<◌};
 ghost use Rattle.archive_shape.specs.Bytes.{zeros};
-ghost use Rattle.archive_shape_writing.specs.Writing.{Writes};
-ghost use Rattle.archive_forms_writing.specs.FormsLaws.Shared.{shared_padding};
+ghost use Rattle.archive_shape_layout.specs.Writing.{Writes};
+ghost use Rattle.archive_forms_laws.specs.Shared.{shared_padding};
 
 use crate::Serializer;
-use archive_forms_borrowed::SerializeUnsized;
 use archive_forms_rc::SharingExt;
+use archive_forms_writing::SerializeUnsized;
 use archive_shape::{Allocator, Error, Sharing, SharingState, Writer};
 
 /// Writes a zero byte after a value that begins at `start`, if the value has no bytes.

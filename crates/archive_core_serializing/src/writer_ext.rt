@@ -1,12 +1,12 @@
 //! `WriterExt`, with the methods of every writer.
 ghost use Rattle.std.specs.Prelude.{◌≡◌, ◌+◌, ◌-◌, ◌^◌, ◌<◌, ◌≤◌, ◌++◌, IfOk};
-ghost use Rattle.archive_shape.specs.ShapeLayout.Bytes.{align_up};
-ghost use Rattle.archive_shape.specs.ShapeLayout.Shape.{align_of};
-ghost use Rattle.archive_shape_writing.specs.Writing.{Writes};
+ghost use Rattle.archive_shape_layout.specs.Bytes.{align_up};
+ghost use Rattle.archive_shape_layout.specs.Shape.{align_of};
+ghost use Rattle.archive_shape_layout.specs.Writing.{Writes};
 ghost use Rattle.archive_shape.specs.Bytes.{zeros};
-ghost use Rattle.archive_forms_writing.specs.FormsLaws.State.{State};
-ghost use Rattle.archive_forms_writing.specs.FormsLaws.Serializing.{Lays};
-ghost use Rattle.archive_forms_writing.specs.FormsLaws.Regions.{placed_fits, placed_refused};
+ghost use Rattle.archive_forms_laws.specs.State.{State};
+ghost use Rattle.archive_forms_laws.specs.Serializing.{Lays};
+ghost use Rattle.archive_forms_laws.specs.Regions.{placed_fits, placed_refused};
 
 use archive_forms_writing::{Archive, align, pad, resolve_aligned};
 use archive_shape::{Error, Portable, Writer};

@@ -7,7 +7,7 @@ use Rattle.archive_shape_layout.specs.Content.Part.{at}
 use Rattle.archive_shape.specs.Kept.{Kept}
 use Rattle.archive_shape.specs.Key.{HeldAt}
 use Rattle.archive_shape.specs.Checks.{Checks}
-use Rattle.archive_shape_writing.specs.declared.error.Error.{Error}
+use Rattle.archive_shape_layout.specs.declared.error.Error.{Error}
 use Rattle.archive_forms_values.specs.Parts.{HasValue}
 use Rattle.archive_forms_values.proofs.Contents.{named_checked}
 use Rattle.archive_forms_values.proofs.Named.{named_held, named_has}

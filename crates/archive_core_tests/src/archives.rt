@@ -1,9 +1,9 @@
 //! Tests of values as whole archives.
 ghost use Rattle.std.specs.Prelude.{◌≢◌, IfOk, MatchResult};
 ghost use Rattle.archive_shape_layout.specs.Content.{Names};
-ghost use Rattle.archive_shape_writing.specs.declared.error.Error.TheVariants.{OutOfMemory};
-ghost use Rattle.archive_forms_values.specs.ShapeCanonical.Settled.{Fit};
-ghost use Rattle.archive_forms_values.specs.FormsLaws.State.{Keys};
+ghost use Rattle.archive_shape_layout.specs.declared.error.Error.TheVariants.{OutOfMemory};
+ghost use Rattle.archive_shape_canonical.specs.Settled.{Fit};
+ghost use Rattle.archive_forms_laws.specs.State.{Keys};
 
 mod own_struct;
 mod written;

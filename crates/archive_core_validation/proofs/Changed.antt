@@ -9,8 +9,8 @@ use Rattle.std.specs.BTreeMap.{BTreeMap, get, Updates, IsUnchanged}
 use Rattle.archive_shape_layout.specs.Shape.{Pointee}
 use Rattle.archive_shape.specs.Kept.{Kept, seen_with, with_entry, StartsShared, RefusesShared, FinishesShared}
 use Rattle.archive_shape.specs.declared.checking.context.ValidationState.{ValidationState}
-use Rattle.archive_shape_writing.specs.declared.error.Error.{Error}
-use Rattle.archive_shape_writing.specs.declared.error.Error.TheVariants.{AlreadyFinished, NotStarted, OutOfMemory}
+use Rattle.archive_shape_layout.specs.declared.error.Error.{Error}
+use Rattle.archive_shape_layout.specs.declared.error.Error.TheVariants.{AlreadyFinished, NotStarted, OutOfMemory}
 use Rattle.archive_core_validation.specs.declared.shared_validator.SharedEntry.{SharedEntry}
 use Rattle.archive_core_validation.specs.Depth.{with_seen}
 use Rattle.archive_core_validation.specs.Visits.{as_entry, seen_in}

@@ -9,8 +9,8 @@ use Rattle.archive_shape.specs.Kept.{Kept, range_of, pushed, popped}
 use Rattle.archive_shape.specs.Questions.{FirstUnanswered, claim}
 use Rattle.archive_shape.specs.Questions.FirstUnanswered.{unanswered_here, unanswered_later}
 use Rattle.archive_shape.specs.declared.checking.context.PushedRange.{PushedRange}
-use Rattle.archive_shape_writing.specs.declared.error.Error.{Error}
-use Rattle.archive_shape_writing.specs.declared.error.Error.TheVariants.{InvalidSubtreePointer, OutOfMemory}
+use Rattle.archive_shape_layout.specs.declared.error.Error.{Error}
+use Rattle.archive_shape_layout.specs.declared.error.Error.TheVariants.{InvalidSubtreePointer, OutOfMemory}
 use Rattle.archive_core_validation.specs.Subtrees.{push_of, IsClaimed, InSubtree}
 
 pub is_claimed :

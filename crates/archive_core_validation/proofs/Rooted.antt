@@ -14,12 +14,11 @@ use Rattle.archive_shape.specs.Questions.{pointee_span}
 use Rattle.archive_shape.specs.Kept.{Kept, Records, range_of}
 use Rattle.archive_shape.specs.PartFault.{PartFault}
 use Rattle.archive_shape.specs.Checks.{Checks}
-use Rattle.archive_shape_writing.specs.declared.error.Error.{Error}
+use Rattle.archive_shape_layout.specs.declared.error.Error.{Error}
 use Rattle.archive_shape.proofs.Inverted.{claim_answered, claimed_parts, first_part}
 use Rattle.archive_forms_values.proofs.Contents.{sized_is}
 use Rattle.archive_forms_values.specs.Parts.{HasValue}
 use Rattle.archive_forms_values.proofs.Accepted.{accepted_has_value}
-pub use Rattle.archive_forms_values.proofs.Rooted.{root_held}
 use Rattle.archive_core_validation.specs.Access.{root_at, whole_range, Decides}
 
 -- the size that a type says stops at `usize::MAX`, which is the length of no buffer

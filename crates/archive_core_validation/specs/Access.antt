@@ -7,8 +7,8 @@ use Rattle.archive_shape_layout.specs.Content.Part.{behind}
 use Rattle.archive_shape.specs.Range.{Range}
 use Rattle.archive_shape.specs.Accepts.{Passes}
 use Rattle.archive_shape.specs.PartFault.{PartFault}
-use Rattle.archive_shape_writing.specs.declared.error.Error.{Error}
-use Rattle.archive_shape_writing.specs.declared.error.Error.TheVariants.{OutOfMemory}
+use Rattle.archive_shape_layout.specs.declared.error.Error.{Error}
+use Rattle.archive_shape_layout.specs.declared.error.Error.TheVariants.{OutOfMemory}
 
 -- a value of a shape at a position, with its own bytes claimed
 abbrev pub root_at : ℕ → Shape → Part

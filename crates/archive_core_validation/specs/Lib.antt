@@ -1,7 +1,6 @@
 pub mod Access
 pub mod AccessLaws
 pub mod Depth
-pub mod FormsValues
 pub mod NestingLaws
 pub mod Subtrees
 pub mod Visits

@@ -6,8 +6,8 @@ use Rattle.archive_shape_layout.specs.Content.{Span}
 use Rattle.archive_shape.specs.Kept.{Kept, range_of, pushed, popped}
 use Rattle.archive_shape.specs.Questions.{AreAnswered, FirstUnanswered, claim}
 use Rattle.archive_shape.specs.declared.checking.context.PushedRange.{PushedRange}
-use Rattle.archive_shape_writing.specs.declared.error.Error.{Error}
-use Rattle.archive_shape_writing.specs.declared.error.Error.TheVariants.{OutOfMemory}
+use Rattle.archive_shape_layout.specs.declared.error.Error.{Error}
+use Rattle.archive_shape_layout.specs.declared.error.Error.TheVariants.{OutOfMemory}
 
 -- the push of a region
 abbrev pub push_of : Kept → Span → PushedRange

@@ -3,7 +3,7 @@ ghost use Rattle.std.specs.Prelude.{◌≡◌, length};
 ghost use Rattle.archive_core_validation.specs.Depth.{unlimited, most_of, most_within, none_seen, whole};
 
 use archive_shape::{ArchiveContext, PushedRange};
-use archive_shape_writing::Error;
+use archive_shape_layout::Error;
 use std::alloc::Global;
 
 /// A context of checks that keeps a range and its open pushes, and no shared positions. Its memory grows with the depth

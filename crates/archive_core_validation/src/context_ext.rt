@@ -5,7 +5,7 @@ ghost use Rattle.archive_shape.specs.Questions.{pointee_span};
 ghost use Rattle.archive_core_validation.specs.Subtrees.{TakesClaimed, KeepsPushes, InSubtree};
 
 use archive_shape::{ArchiveContext, Portable};
-use archive_shape_writing::Error;
+use archive_shape_layout::Error;
 
 /// Methods of every context.
 pub trait ArchiveContextExt: ArchiveContext {

@@ -7,8 +7,7 @@ ghost use Rattle.archive_core_validation.specs.Visits.{as_entry, seen_in};
 
 use crate::{Visited, Visits};
 use archive_shape::ValidationState;
-use archive_shape_layout::{Pointee, same_shape};
-use archive_shape_writing::Error;
+use archive_shape_layout::{Error, Pointee, same_shape};
 use std::alloc::Global;
 use std::collections::BTreeMap;
 

@@ -6,8 +6,7 @@ ghost use Rattle.archive_core_validation.specs.Depth.{none_seen, with_seen};
 
 use crate::{ArchiveValidator, SharedValidator};
 use archive_shape::{ArchiveContext, PushedRange, SharedContext, ValidationState};
-use archive_shape_layout::Pointee;
-use archive_shape_writing::Error;
+use archive_shape_layout::{Error, Pointee};
 
 /// A type that keeps the shared positions that were visited.
 pub trait Visited {

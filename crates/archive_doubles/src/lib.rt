@@ -2,9 +2,9 @@
 #![tactic(auto)]
 
 ghost use Rattle.std.specs.Prelude.{◌≡◌, true, vec_len};
-ghost use Rattle.archive_shape_writing.specs.Progress.Progress.{unmet};
+ghost use Rattle.archive_shape_layout.specs.Progress.Progress.{unmet};
 
-use archive_shape_writing::{Error, Positional, Registry, Writer};
+use archive_shape_layout::{Error, Positional, Registry, Writer};
 use std::alloc::Global;
 
 /// A writer that fails after a number of writes. Of each later piece it writes the first bytes, up to a number of them.
@@ -54,7 +54,7 @@ impl Registry for FailingWriter {
     ghost known = { λ _ _. unmet };
 }
 
-#[tactic(auto, using(archive_shape_writing::proofs::Joined::cut_none, archive_shape_writing::proofs::Joined::cut_take))]
+#[tactic(auto, using(archive_shape_layout::proofs::Joined::cut_none, archive_shape_layout::proofs::Joined::cut_take))]
 impl Writer for FailingWriter {
     ghost OBSERVABLE = { true };
 

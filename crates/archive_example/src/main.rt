@@ -2,7 +2,7 @@
 #![tactic(auto)]
 
 ghost use Rattle.std.specs.Prelude.{⊤};
-ghost use Rattle.archive_shape.specs.ShapeLayout.Shape.Shape.{vector};
+ghost use Rattle.archive_shape_layout.specs.Shape.Shape.{vector};
 ghost use Rattle.archive_forms_values.specs.Parts.{HasValue};
 ghost use Rattle.archive_example_player.specs.Player.{score_shape, player_shape, KnowsPlayer};
 

@@ -6,7 +6,7 @@ use Rattle.std.specs.String.{string_bytes}
 use Rattle.std.specs.Global.{Global}
 use Rattle.archive_shape_layout.specs.Shape.Shape.{text, vector}
 use Rattle.archive_shape_layout.specs.Value.Value.{natural, integer}
-use Rattle.archive_forms_laws.specs.ShapeCanonical.FirstFit.{first_fit}
+use Rattle.archive_shape_canonical.specs.FirstFit.{first_fit}
 use Rattle.archive_forms_laws.specs.Fields.{FieldsSpelling, no_fields, more_fields}
 use Rattle.archive_forms_laws.specs.Pointers.{slice_spelling}
 use Rattle.archive_forms_laws.specs.Spells.{Spells}

@@ -1,7 +1,7 @@
 -- The own bytes of a player, field by field.
 use Rattle.std.proofs.Common.{ℕ, ◌+◌, List, Option, Ok, Err, ap}
 use Rattle.archive_shape_layout.specs.Shape.Shape.{tuple, text}
-use Rattle.archive_shape_writing.specs.declared.error.Error.{Error}
+use Rattle.archive_shape_layout.specs.declared.error.Error.{Error}
 use Rattle.archive_forms_laws.specs.Fields.{struct_spelling, no_fields}
 use Rattle.archive_forms_laws.specs.Serializing.{CanResolve, Resolves}
 use Rattle.archive_forms_values.specs.declared.reading.resolving.VecResolver.{VecResolver}

@@ -1,8 +1,8 @@
 -- The data of a player, field by field.
 use Rattle.std.proofs.Common.{◌≡◌, Option, Ok, Err, ap}
 use Rattle.archive_shape_layout.specs.Shape.Shape.{text}
-use Rattle.archive_shape_writing.specs.Writing.{WriterMembers}
-use Rattle.archive_shape_writing.specs.declared.error.Error.{Error}
+use Rattle.archive_shape_layout.specs.Writing.{WriterMembers}
+use Rattle.archive_shape_layout.specs.declared.error.Error.{Error}
 use Rattle.archive_forms_laws.specs.State.{State}
 use Rattle.archive_forms_laws.specs.Spelling.{state_after}
 use Rattle.archive_forms_laws.specs.Fields.{no_fields}

@@ -4,16 +4,16 @@ use Rattle.std.specs.Prelude.{⊤}
 use Rattle.std.specs.Rc.{rc_str_bytes}
 use Rattle.std.specs.Global.{Global}
 use Rattle.std.specs.declared.rc.RcStr.{RcStr}
-use Rattle.archive_shape.specs.ShapeLayout.Bytes.{window, word_at}
-use Rattle.archive_shape.specs.ShapeLayout.Shape.{Shape, size_of}
-use Rattle.archive_shape.specs.ShapeLayout.Shape.Shape.{shared}
-use Rattle.archive_shape.specs.ShapeLayout.Shape.Pointee.{sized, slice, str}
-use Rattle.archive_shape.specs.ShapeLayout.Value.{Value, count_values}
-use Rattle.archive_shape.specs.ShapeLayout.Value.Value.{counted, group, string}
-use Rattle.archive_shape.specs.ShapeLayout.Content.{Names}
-use Rattle.archive_shape.proofs.ShapeLayout.Unique.{by_claimed}
-use Rattle.archive_shape.proofs.ShapeLayout.Visited.{claimed_inside}
-use Rattle.archive_forms_laws.specs.ShapeCanonical.Sharing.{erased}
+use Rattle.archive_shape_layout.specs.Bytes.{window, word_at}
+use Rattle.archive_shape_layout.specs.Shape.{Shape, size_of}
+use Rattle.archive_shape_layout.specs.Shape.Shape.{shared}
+use Rattle.archive_shape_layout.specs.Shape.Pointee.{sized, slice, str}
+use Rattle.archive_shape_layout.specs.Value.{Value, count_values}
+use Rattle.archive_shape_layout.specs.Value.Value.{counted, group, string}
+use Rattle.archive_shape_layout.specs.Content.{Names}
+use Rattle.archive_shape_layout.proofs.Unique.{by_claimed}
+use Rattle.archive_shape_layout.proofs.Visited.{claimed_inside}
+use Rattle.archive_shape_canonical.specs.Sharing.{erased}
 use Rattle.archive_shape.specs.Key.{HeldAt}
 use Rattle.archive_forms_values.proofs.Contents.{sized_is, slice_is}
 use Rattle.archive_forms_values.specs.Parts.{HasValue, PointsTo, AreElements, HasElements}

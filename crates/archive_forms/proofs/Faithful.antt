@@ -5,11 +5,11 @@ use Rattle.std.specs.Rc.{rc_slice_items}
 use Rattle.std.specs.Global.{Global}
 use Rattle.std.specs.declared.rc.Rc.{Rc}
 use Rattle.std.specs.declared.rc.RcSlice.{RcSlice}
-use Rattle.archive_shape.specs.ShapeLayout.Shape.{Shape, Pointee}
-use Rattle.archive_shape.specs.ShapeLayout.Shape.Shape.{shared}
-use Rattle.archive_shape.specs.ShapeLayout.Value.{Value, Values}
-use Rattle.archive_shape.specs.ShapeLayout.Value.Value.{chosen, counted, group}
-use Rattle.archive_shape.specs.ShapeLayout.Value.Values.{no_values, more_values}
+use Rattle.archive_shape_layout.specs.Shape.{Shape, Pointee}
+use Rattle.archive_shape_layout.specs.Shape.Shape.{shared}
+use Rattle.archive_shape_layout.specs.Value.{Value, Values}
+use Rattle.archive_shape_layout.specs.Value.Value.{chosen, counted, group}
+use Rattle.archive_shape_layout.specs.Value.Values.{no_values, more_values}
 use Rattle.archive_forms_laws.specs.Spelling.{Spelling}
 use Rattle.archive_forms_laws.specs.Forms.{seen_as}
 use Rattle.archive_forms_laws.specs.Arrays.{array_spelling}

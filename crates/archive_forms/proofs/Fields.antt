@@ -1,16 +1,16 @@
 -- What is read back of tuples, one field after another.
 use Rattle.std.proofs.Common.{◌≡◌, ℕ, ◌+◌, ◌≤◌, arith, zero-add, List, [], ◌∷◌, refl, sym, ap, subst, ◌∙◌}
 use Rattle.std.specs.Prelude.{⊤}
-use Rattle.archive_shape.specs.ShapeLayout.Bytes.{align_up}
-use Rattle.archive_shape.specs.ShapeLayout.Shape.{Shape, Shapes, size_of, align_of, fields_end}
-use Rattle.archive_shape.specs.ShapeLayout.Shape.Shape.{tuple}
-use Rattle.archive_shape.specs.ShapeLayout.Shape.Shapes.{no_shapes, more_shapes}
-use Rattle.archive_shape.specs.ShapeLayout.Value.{Value, Values}
-use Rattle.archive_shape.specs.ShapeLayout.Value.Values.{no_values}
-use Rattle.archive_shape.specs.ShapeLayout.Content.{Names}
-use Rattle.archive_shape.proofs.ShapeLayout.Framed.{le_align_up, le_fields_end}
-use Rattle.archive_shape.proofs.ShapeLayout.PointerSizes.{first_multiple}
-use Rattle.archive_forms_laws.specs.ShapeCanonical.Sharing.{erased, all_erased}
+use Rattle.archive_shape_layout.specs.Bytes.{align_up}
+use Rattle.archive_shape_layout.specs.Shape.{Shape, Shapes, size_of, align_of, fields_end}
+use Rattle.archive_shape_layout.specs.Shape.Shape.{tuple}
+use Rattle.archive_shape_layout.specs.Shape.Shapes.{no_shapes, more_shapes}
+use Rattle.archive_shape_layout.specs.Value.{Value, Values}
+use Rattle.archive_shape_layout.specs.Value.Values.{no_values}
+use Rattle.archive_shape_layout.specs.Content.{Names}
+use Rattle.archive_shape_layout.proofs.Framed.{le_align_up, le_fields_end}
+use Rattle.archive_shape_layout.proofs.PointerSizes.{first_multiple}
+use Rattle.archive_shape_canonical.specs.Sharing.{erased, all_erased}
 use Rattle.archive_shape.specs.Key.{HeldAt}
 use Rattle.archive_forms_laws.specs.Fields.{unit_spelling}
 use Rattle.archive_forms_values.specs.Tuples.{tuple2}

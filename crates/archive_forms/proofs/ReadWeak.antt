@@ -1,10 +1,10 @@
 -- What is read back of weak pointers, which lead to nothing or where the counted pointers after their tags do.
 use Rattle.std.proofs.Common.{ℕ, ◌+◌, false, List, Some, None, sym, ap}
-use Rattle.archive_shape.specs.ShapeLayout.Shape.{Pointee}
-use Rattle.archive_shape.specs.ShapeLayout.Shape.Shape.{shared, weak}
-use Rattle.archive_shape.specs.ShapeLayout.Value.{Value}
-use Rattle.archive_shape.specs.ShapeLayout.Content.{Names}
-use Rattle.archive_forms_laws.specs.ShapeCanonical.Sharing.{erased}
+use Rattle.archive_shape_layout.specs.Shape.{Pointee}
+use Rattle.archive_shape_layout.specs.Shape.Shape.{shared, weak}
+use Rattle.archive_shape_layout.specs.Value.{Value}
+use Rattle.archive_shape_layout.specs.Content.{Names}
+use Rattle.archive_shape_canonical.specs.Sharing.{erased}
 use Rattle.archive_forms_rc.specs.WeakPointers.{IsNothingAt, IsPointerAt}
 use Rattle.archive_forms_rc.specs.declared.sharing.keyed.Shared.{Shared}
 use Rattle.archive_forms.specs.Deserializing.{IsReadAt}

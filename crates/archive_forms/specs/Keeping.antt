@@ -2,7 +2,7 @@
 use Rattle.std.specs.Prelude.{◌≡◌, ◌≢◌, ℕ, List, length, Option, Some, None, MatchOption}
 use Rattle.std.specs.Ordering.{nat_cmp}
 use Rattle.std.specs.BTreeMap.{get}
-use Rattle.archive_shape.specs.ShapeLayout.Bytes.{window}
+use Rattle.archive_shape_layout.specs.Bytes.{window}
 use Rattle.archive_forms.specs.declared.deserializing.shared_pool.SharedPool.{SharedPool}
 
 module _ {P : Type 0} where

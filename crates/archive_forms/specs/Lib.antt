@@ -1,3 +1,4 @@
+pub mod Calls
 pub mod Deserializing
 pub mod Faithful
 pub mod Keeping

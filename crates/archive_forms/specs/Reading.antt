@@ -1,11 +1,16 @@
 -- The values that archived ones are read back as. Each is a relation between a value of the layout, without its counts,
 -- and an owned value.
 use Rattle.std.specs.Prelude.{◌≡◌, List, [], ◌∷◌, Option, Some, None, Result, Ok, Err, ⊤}
-use Rattle.archive_shape.specs.ShapeLayout.Value.{Value, Values}
-use Rattle.archive_shape.specs.ShapeLayout.Value.Value.{chosen, counted, group}
-use Rattle.archive_shape.specs.ShapeLayout.Value.Values.{no_values, more_values}
+use Rattle.std.specs.Rc.{rc_slice_items}
+use Rattle.std.specs.Global.{Global}
+use Rattle.std.specs.declared.rc.Rc.{Rc}
+use Rattle.std.specs.declared.rc.RcSlice.{RcSlice}
+use Rattle.archive_shape_layout.specs.Value.{Value, Values}
+use Rattle.archive_shape_layout.specs.Value.Value.{chosen, counted, group}
+use Rattle.archive_shape_layout.specs.Value.Values.{no_values, more_values}
 use Rattle.archive_forms_laws.specs.Spelling.{Spelling}
 use Rattle.archive_forms_laws.specs.Fields.{unit_spelling}
+use Rattle.archive_forms_rc.specs.declared.sharing.keyed.Shared.{Shared}
 
 -- the values that are archived as it
 abbrev pub reads_as : {A R : Type 0} → Spelling A R → Value → A → Type 0
@@ -52,6 +57,17 @@ reads_group Fields v = (fields : Values) × (group fields ≡ v) × Fields field
 abbrev pub reads_result : {A B : Type 0} → (Value → A → Type 0) → (Value → B → Type 0) → Value → Result A B → Type 0
 reads_result reads errors v (Ok x) = (inner : Value) × (chosen 0 (more_values inner no_values) ≡ v) × reads inner x
 reads_result reads errors v (Err e) = (inner : Value) × (chosen 1 (more_values inner no_values) ≡ v) × errors inner e
+
+-- ---- counted pointers, by what they lead to
+
+module _ {T : Type 0} where
+  -- a pointer to what the value is read back as
+  abbrev pub reads_rc : (Value → T → Type 0) → Value → Shared (Rc T Global) → Type 0
+  reads_rc reads = reads_in (λ x. x.value.value) (reads_counted reads)
+
+  -- a pointer to what the elements are read back as
+  abbrev pub reads_rc_slice : (Value → T → Type 0) → Value → Shared (RcSlice T Global) → Type 0
+  reads_rc_slice reads = reads_in (λ x. rc_slice_items x.value) (reads_counted (reads_all reads))
 
 -- ---- tuples, by their fields in order
 

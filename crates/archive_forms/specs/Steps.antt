@@ -2,10 +2,10 @@
 use Rattle.std.specs.Prelude.{ℕ, ◌+◌, ◌≤◌, List, Result, IfOk}
 use denote.Ref.{MutBor}
 use denote.Param.Members.{Shared}
-use Rattle.archive_shape.specs.ShapeLayout.Shape.{Shape, size_of}
-use Rattle.archive_shape.specs.ShapeLayout.Value.{Value}
-use Rattle.archive_shape.specs.ShapeLayout.Content.{Names}
-use Rattle.archive_shape_writing.specs.declared.error.Error.{Error}
+use Rattle.archive_shape_layout.specs.Shape.{Shape, size_of}
+use Rattle.archive_shape_layout.specs.Value.{Value}
+use Rattle.archive_shape_layout.specs.Content.{Names}
+use Rattle.archive_shape_layout.specs.declared.error.Error.{Error}
 use Rattle.archive_forms_values.specs.Parts.{HasValue}
 use Rattle.archive_forms.specs.Deserializing.{DeserializesBy}
 

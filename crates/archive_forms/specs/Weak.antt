@@ -1,8 +1,8 @@
 -- What is read back of weak pointers.
 use Rattle.std.specs.Prelude.{ℕ, false, List, MatchOption}
-use Rattle.archive_shape.specs.ShapeLayout.Shape.{Pointee}
-use Rattle.archive_shape.specs.ShapeLayout.Value.{Value}
-use Rattle.archive_shape.specs.ShapeLayout.Content.{Names}
+use Rattle.archive_shape_layout.specs.Shape.{Pointee}
+use Rattle.archive_shape_layout.specs.Value.{Value}
+use Rattle.archive_shape_layout.specs.Content.{Names}
 use Rattle.archive_forms_rc.specs.WeakPointers.{IsNothingAt, IsPointerAt}
 use Rattle.archive_forms_rc.specs.declared.sharing.keyed.Shared.{Shared}
 use Rattle.archive_forms_rc.specs.declared.sharing.weak.SharedWeak.{SharedWeak}

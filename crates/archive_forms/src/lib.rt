@@ -16,11 +16,6 @@ pub use deserializing::{
 pub mod collections;
 pub mod laws;
 
-pub use archive_forms_borrowed::{
-    ArchiveUnsized, EntryAdapter, EntryParts, EntryResolver, EntryStep, SerializeEntry,
-    SerializeUnsized, resolve_from_ref, resolve_from_slice, serialize_entry_each,
-    serialize_from_iter, serialize_from_iter_each, serialize_from_ref, serialize_from_slice,
-};
 pub use archive_forms_comparing::{
     ArchivedDebug, ArchivedEq, ArchivedHash, ArchivedOrd, ComparedNative,
 };
@@ -40,8 +35,11 @@ pub use archive_forms_values::{
     native_of,
 };
 pub use archive_forms_writing::{
-    Archive, KeyOf, Leaf, NativeLeaf, Serialize, align, pad, resolve_aligned, resolve_field,
-    serialize_array_each, serialize_box_each, serialize_boxed_slice_each, serialize_from_str,
+    Archive, ArchiveUnsized, EntryAdapter, EntryParts, EntryResolver, EntryStep, KeyOf, Leaf,
+    NativeLeaf, Serialize, SerializeEntry, SerializeUnsized, align, pad, resolve_aligned,
+    resolve_field, resolve_from_ref, resolve_from_slice, serialize_array_each, serialize_box_each,
+    serialize_boxed_slice_each, serialize_entry_each, serialize_from_iter,
+    serialize_from_iter_each, serialize_from_ref, serialize_from_slice, serialize_from_str,
     serialize_one_each, serialize_option_each, serialize_result_each, serialize_slice_each,
     serialize_str, serialize_tuple1_each, serialize_tuple2_each, serialize_tuple3_each,
     serialize_tuple4_each, serialize_using, serialize_vec_each,

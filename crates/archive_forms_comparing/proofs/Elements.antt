@@ -6,11 +6,11 @@ use Rattle.std.specs.Ordering.{nat_cmp, MatchOrdering}
 use Rattle.std.specs.Cmp.{ranks}
 use Rattle.std.specs.Cmp.Lexicographic.{pointwise, slice_cmp}
 use Rattle.std.proofs.lemmas.List.{length-drop}
-use Rattle.archive_shape.specs.ShapeLayout.Shape.{Shape, size_of}
-use Rattle.archive_shape.specs.ShapeLayout.Value.{Value, Values, count_values}
-use Rattle.archive_shape.specs.ShapeLayout.Value.Values.{no_values, more_values}
-use Rattle.archive_shape.specs.ShapeLayout.Content.{Names}
-use Rattle.archive_shape.specs.ShapeLayout.Path.{value_in}
+use Rattle.archive_shape_layout.specs.Shape.{Shape, size_of}
+use Rattle.archive_shape_layout.specs.Value.{Value, Values, count_values}
+use Rattle.archive_shape_layout.specs.Value.Values.{no_values, more_values}
+use Rattle.archive_shape_layout.specs.Content.{Names}
+use Rattle.archive_shape_layout.specs.Path.{value_in}
 use Rattle.archive_shape.specs.Key.{HeldAt}
 use Rattle.archive_forms_laws.specs.Views.{listed, elements_of}
 use Rattle.archive_forms_values.specs.Parts.{HasElements, AreElements}

@@ -4,7 +4,7 @@ use Rattle.std.specs.List.{fold, flat_map}
 use Rattle.std.specs.Hash.{fed_then}
 use Rattle.std.specs.Hash as fed
 use Rattle.std.proofs.lemmas.List.{length-drop}
-use Rattle.archive_shape.specs.ShapeLayout.Value.{Value}
+use Rattle.archive_shape_layout.specs.Value.{Value}
 
 no_elements : (xs : List Value) → length xs ≡ 0 → xs ≡ []
 no_elements [] e = refl

@@ -1,8 +1,8 @@
 -- The results of comparisons, by the values that the layout has.
 use Rattle.std.specs.Prelude.{◌≡◌, ℕ, ◌+◌, List, ◌∷◌, drop}
-use Rattle.archive_shape.specs.ShapeLayout.Shape.{Shape}
-use Rattle.archive_shape.specs.ShapeLayout.Value.{Value}
-use Rattle.archive_shape.specs.ShapeLayout.Content.{Names}
+use Rattle.archive_shape_layout.specs.Shape.{Shape}
+use Rattle.archive_shape_layout.specs.Value.{Value}
+use Rattle.archive_shape_layout.specs.Content.{Names}
 use Rattle.archive_shape.specs.Key.{HeldAt}
 use Rattle.archive_forms_laws.specs.Views.{elements_of}
 use Rattle.archive_forms_values.specs.Parts.{HasValue, AreElements}

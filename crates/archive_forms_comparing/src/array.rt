@@ -1,10 +1,9 @@
 //! Arrays are compared as vectors of their elements are.
-ghost use Rattle.archive_shape.specs.ShapeLayout.Shape.Shape.{array};
-ghost use Rattle.archive_shape.specs.ShapeLayout.Value.{Value};
-ghost use Rattle.archive_shape.specs.Key.{HeldAt};
+ghost use Rattle.archive_shape_layout.specs.Shape.Shape.{array};
 ghost use Rattle.archive_forms_laws.specs.Orders.{vector_equality, vector_order};
 ghost use Rattle.archive_forms_laws.proofs.Forms.{equivalences, total, agree};
-ghost use Rattle.archive_forms_values.specs.Parts.{HasValue, HasElements, AreElements};
+ghost use Rattle.archive_forms_values.specs.Parts.{HasValue, HasElements};
+ghost use Rattle.archive_forms_comparing.specs.Calls.Comparing.{GivesElements};
 
 use crate::vector::{compare_elements, equal_elements};
 use crate::{ArchivedEq, ArchivedOrd};
@@ -16,8 +15,7 @@ use std::cmp::Ordering;
 pub fn array_elements<'a, T: Portable, const N: usize>(this: &Ref<'a, [T; N]>) -> SliceRef<'a, T>
     requires { HasValue (array N T.shape) T.knows this.now.bytes.now this.now.pos }
     ensures there { HasElements T.shape T.knows result.bytes.now result.pos result.len }
-    ensures elements { (v : Value) → HeldAt (array N T.shape) T.knows this.now.bytes.now this.now.pos v
-        → AreElements T.shape T.knows result.bytes.now result.pos result.len v }
+    ensures elements { GivesElements (array N T.shape) T.shape T.knows this.now result }
 {
     array_slice(*this)
 }

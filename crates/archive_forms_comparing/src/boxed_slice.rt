@@ -1,11 +1,10 @@
 //! Boxes of slices are compared as vectors of their elements are.
-ghost use Rattle.archive_shape.specs.ShapeLayout.Shape.Shape.{box};
-ghost use Rattle.archive_shape.specs.ShapeLayout.Shape.Pointee.{slice};
-ghost use Rattle.archive_shape.specs.ShapeLayout.Value.{Value};
-ghost use Rattle.archive_shape.specs.Key.{HeldAt};
+ghost use Rattle.archive_shape_layout.specs.Shape.Shape.{box};
+ghost use Rattle.archive_shape_layout.specs.Shape.Pointee.{slice};
 ghost use Rattle.archive_forms_laws.specs.Orders.{vector_equality, vector_order};
 ghost use Rattle.archive_forms_laws.proofs.Forms.{equivalences, total, agree};
-ghost use Rattle.archive_forms_values.specs.Parts.{HasValue, HasElements, AreElements};
+ghost use Rattle.archive_forms_values.specs.Parts.{HasValue, HasElements};
+ghost use Rattle.archive_forms_comparing.specs.Calls.Comparing.{GivesElements};
 
 use crate::vector::{compare_elements, equal_elements};
 use crate::{ArchivedEq, ArchivedOrd};
@@ -17,8 +16,7 @@ use std::cmp::Ordering;
 pub fn boxed_elements<'a, T: Portable>(this: &Ref<'a, ArchivedBoxedSlice<T>>) -> SliceRef<'a, T>
     requires { HasValue (box (slice T.shape)) T.knows this.now.bytes.now this.now.pos }
     ensures there { HasElements T.shape T.knows result.bytes.now result.pos result.len }
-    ensures elements { (v : Value) → HeldAt (box (slice T.shape)) T.knows this.now.bytes.now
-        this.now.pos v → AreElements T.shape T.knows result.bytes.now result.pos result.len v }
+    ensures elements { GivesElements (box (slice T.shape)) T.shape T.knows this.now result }
 {
     ArchivedBoxedSlice::get(*this)
 }

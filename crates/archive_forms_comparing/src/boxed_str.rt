@@ -1,7 +1,7 @@
 //! Boxes of texts are compared as texts are.
 ghost use Rattle.std.specs.Prelude.{⊤};
-ghost use Rattle.archive_shape.specs.ShapeLayout.Shape.Shape.{box};
-ghost use Rattle.archive_shape.specs.ShapeLayout.Shape.Pointee.{str};
+ghost use Rattle.archive_shape_layout.specs.Shape.Shape.{box};
+ghost use Rattle.archive_shape_layout.specs.Shape.Pointee.{str};
 ghost use Rattle.archive_forms_laws.specs.Views.{text_of};
 ghost use Rattle.archive_forms_laws.specs.Orders.{text_equality, text_order};
 ghost use Rattle.archive_forms_laws.proofs.Forms.{equivalences, total, agree};

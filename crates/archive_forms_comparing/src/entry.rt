@@ -1,10 +1,8 @@
 //! Entries are compared as the tuples of their key and their value.
-ghost use Rattle.std.specs.Prelude.{◌≡◌};
-ghost use Rattle.archive_forms_values.specs.Tuples.{tuple2};
 ghost use Rattle.archive_forms_laws.specs.Orders.{no_fields_equality, no_fields_order, more_fields_equality, more_fields_order, tuple_equality, tuple_order};
 ghost use Rattle.archive_forms_laws.proofs.Forms.{equivalences, total, agree};
-ghost use Rattle.archive_forms_values.specs.Parts.{HasValue, both};
-ghost use Rattle.archive_forms_comparing.specs.Compared.{HasPart};
+ghost use Rattle.archive_forms_values.specs.Calls.Tuples.{HasTuple2};
+ghost use Rattle.archive_forms_comparing.specs.Calls.Parts.{GivesTuple};
 
 use crate::{ArchivedEq, ArchivedOrd};
 use archive_forms_values::{ArchivedTuple2, Entry};
@@ -15,10 +13,8 @@ use std::cmp::Ordering;
 pub fn tuple_of<'a, K: Portable, V: Portable>(
     this: &Ref<'a, Entry<K, V>>,
 ) -> Ref<'a, ArchivedTuple2<K, V>>
-    requires { HasValue (tuple2 K.shape V.shape) (both K.knows V.knows) this.now.bytes.now
-        this.now.pos }
-    ensures { HasPart (λ v x. v ≡ x) (tuple2 K.shape V.shape) (both K.knows V.knows) this.now.bytes.now
-        this.now.pos (tuple2 K.shape V.shape) (both K.knows V.knows) result.bytes.now result.pos }
+    requires { HasTuple2 K.shape V.shape K.knows V.knows this.now }
+    ensures { GivesTuple K.shape V.shape K.knows V.knows this.now result }
 {
     Ref::new(this.bytes, this.pos)
 }

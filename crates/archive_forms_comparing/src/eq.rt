@@ -2,7 +2,7 @@
 ghost use Rattle.std.specs.Cmp.{IsEquivalence};
 ghost use Rattle.archive_forms_laws.specs.Orders.{Equality};
 ghost use Rattle.archive_forms_values.specs.Parts.{HasValue};
-ghost use Rattle.archive_forms_comparing.specs.Compared.{OfBoth};
+ghost use Rattle.archive_forms_comparing.specs.Calls.Comparing.{Compares};
 
 use archive_shape::{Portable, Ref};
 
@@ -16,8 +16,7 @@ pub trait ArchivedEq: Portable {
     fn eq(this: &Ref<'_, Self>, other: &Ref<'_, Self>) -> bool
         requires this { HasValue Self.shape Self.knows this.now.bytes.now this.now.pos }
         requires other { HasValue Self.shape Self.knows other.now.bytes.now other.now.pos }
-        ensures { OfBoth Self.shape Self.knows this.now.bytes.now
-            this.now.pos other.now.bytes.now other.now.pos equal result };
+        ensures { Compares Self.shape Self.knows this.now other.now equal result };
 
     ghost is_equivalence: { IsEquivalence equal };
 }

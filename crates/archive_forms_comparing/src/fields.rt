@@ -2,7 +2,7 @@
 ghost use Rattle.std.specs.Prelude.{◌&&◌};
 ghost use Rattle.std.specs.Ordering.{ordering_then};
 ghost use Rattle.archive_forms_values.specs.Parts.{HasValue};
-ghost use Rattle.archive_forms_comparing.specs.Compared.{OfBoth};
+ghost use Rattle.archive_forms_comparing.specs.Calls.Comparing.{Compares};
 
 use crate::{ArchivedEq, ArchivedOrd};
 use archive_shape::Ref;
@@ -12,8 +12,7 @@ use std::cmp::Ordering;
 pub(crate) fn equal_then<T: ArchivedEq>(found: bool, this: &Ref<'_, T>, other: &Ref<'_, T>) -> bool
     requires this { HasValue T.shape T.knows this.now.bytes.now this.now.pos }
     requires other { HasValue T.shape T.knows other.now.bytes.now other.now.pos }
-    ensures { OfBoth T.shape T.knows this.now.bytes.now this.now.pos other.now.bytes.now other.now.pos
-        (λ v w. found && T.equal v w) result }
+    ensures { Compares T.shape T.knows this.now other.now (λ v w. found && T.equal v w) result }
 {
     if !found {
         return false;
@@ -29,8 +28,7 @@ pub(crate) fn compare_then<T: ArchivedOrd>(
 ) -> Ordering
     requires this { HasValue T.shape T.knows this.now.bytes.now this.now.pos }
     requires other { HasValue T.shape T.knows other.now.bytes.now other.now.pos }
-    ensures { OfBoth T.shape T.knows this.now.bytes.now this.now.pos other.now.bytes.now other.now.pos
-        (λ v w. ordering_then found (T.order v w)) result }
+    ensures { Compares T.shape T.knows this.now other.now (λ v w. ordering_then found (T.order v w)) result }
 {
     match found {
         Ordering::Equal => T::cmp(this, other),

@@ -3,7 +3,7 @@ ghost use Rattle.std.specs.Cmp.{IsTotalOrder};
 ghost use Rattle.archive_forms_laws.specs.Orders.{Order};
 ghost use Rattle.archive_forms_laws.specs.OrderingLaws.{Agree};
 ghost use Rattle.archive_forms_values.specs.Parts.{HasValue};
-ghost use Rattle.archive_forms_comparing.specs.Compared.{OfBoth};
+ghost use Rattle.archive_forms_comparing.specs.Calls.Comparing.{Compares};
 
 use crate::ArchivedEq;
 use archive_shape::Ref;
@@ -18,8 +18,7 @@ pub trait ArchivedOrd: ArchivedEq {
     fn cmp(this: &Ref<'_, Self>, other: &Ref<'_, Self>) -> Ordering
         requires this { HasValue Self.shape Self.knows this.now.bytes.now this.now.pos }
         requires other { HasValue Self.shape Self.knows other.now.bytes.now other.now.pos }
-        ensures { OfBoth Self.shape Self.knows this.now.bytes.now
-            this.now.pos other.now.bytes.now other.now.pos order result };
+        ensures { Compares Self.shape Self.knows this.now other.now order result };
 
     ghost is_total: { IsTotalOrder order };
 

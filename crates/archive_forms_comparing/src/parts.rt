@@ -1,12 +1,9 @@
 //! The parts of archived options, results and boxes that comparisons use.
-ghost use Rattle.std.specs.Prelude.{◌≡◌, None, Some, Ok, Err, MatchOption, MatchResult};
-ghost use Rattle.archive_shape.specs.ShapeLayout.Shape.Shape.{option, result as result_shape, box};
-ghost use Rattle.archive_shape.specs.ShapeLayout.Shape.Pointee.{sized};
-ghost use Rattle.archive_shape.specs.ShapeLayout.Value.{Value};
-ghost use Rattle.archive_shape.specs.Key.{HeldAt};
-ghost use Rattle.archive_forms_laws.specs.Views.{option_of, result_of};
-ghost use Rattle.archive_forms_values.specs.Parts.{HasValue, both};
-ghost use Rattle.archive_forms_comparing.specs.Compared.{HasPart};
+ghost use Rattle.archive_shape_layout.specs.Shape.Shape.{option, box};
+ghost use Rattle.archive_shape_layout.specs.Shape.Pointee.{sized};
+ghost use Rattle.archive_forms_values.specs.Parts.{HasValue};
+ghost use Rattle.archive_forms_values.specs.Calls.Reading.{HasResult};
+ghost use Rattle.archive_forms_comparing.specs.Calls.Parts.{GivesOption, GivesOutcome, GivesBoxed};
 
 use archive_forms_values::{ArchivedBox, ArchivedOption, ArchivedResult};
 use archive_shape::{Portable, Ref};
@@ -14,9 +11,7 @@ use archive_shape::{Portable, Ref};
 /// Returns the value of an archived option, if there is one.
 pub fn option_value<'a, T: Portable>(this: &Ref<'a, ArchivedOption<T>>) -> Option<Ref<'a, T>>
     requires { HasValue (option T.shape) T.knows this.now.bytes.now this.now.pos }
-    ensures { MatchOption result
-        ((v : Value) → HeldAt (option T.shape) T.knows this.now.bytes.now this.now.pos v → option_of v ≡ None)
-        (λ r. HasPart (λ v x. option_of v ≡ Some x) (option T.shape) T.knows this.now.bytes.now this.now.pos T.shape T.knows r.bytes.now r.pos) }
+    ensures { GivesOption T.shape T.knows this.now result }
 {
     ArchivedOption::as_ref(*this)
 }
@@ -25,11 +20,8 @@ pub fn option_value<'a, T: Portable>(this: &Ref<'a, ArchivedOption<T>>) -> Optio
 pub fn result_outcome<'a, T: Portable, E: Portable>(
     this: &Ref<'a, ArchivedResult<T, E>>,
 ) -> Result<Ref<'a, T>, Ref<'a, E>>
-    requires { HasValue (result_shape T.shape E.shape) (both T.knows E.knows) this.now.bytes.now
-        this.now.pos }
-    ensures { MatchResult result
-        (λ r. HasPart (λ v x. result_of v ≡ Ok x) (result_shape T.shape E.shape) (both T.knows E.knows) this.now.bytes.now this.now.pos T.shape T.knows r.bytes.now r.pos)
-        (λ r. HasPart (λ v x. result_of v ≡ Err x) (result_shape T.shape E.shape) (both T.knows E.knows) this.now.bytes.now this.now.pos E.shape E.knows r.bytes.now r.pos) }
+    requires { HasResult T.shape E.shape T.knows E.knows this.now }
+    ensures { GivesOutcome T.shape E.shape T.knows E.knows this.now result }
 {
     ArchivedResult::as_ref(*this)
 }
@@ -37,8 +29,7 @@ pub fn result_outcome<'a, T: Portable, E: Portable>(
 /// Returns the value of an archived box.
 pub fn box_value<'a, T: Portable>(this: &Ref<'a, ArchivedBox<T>>) -> Ref<'a, T>
     requires { HasValue (box (sized T.shape)) T.knows this.now.bytes.now this.now.pos }
-    ensures { HasPart (λ v x. v ≡ x) (box (sized T.shape)) T.knows this.now.bytes.now
-        this.now.pos T.shape T.knows result.bytes.now result.pos }
+    ensures { GivesBoxed T.shape T.knows this.now result }
 {
     ArchivedBox::get(*this)
 }

@@ -1,6 +1,6 @@
 //! Texts are compared by their bytes.
 ghost use Rattle.std.specs.Prelude.{⊤};
-ghost use Rattle.archive_shape.specs.ShapeLayout.Shape.Shape.{text};
+ghost use Rattle.archive_shape_layout.specs.Shape.Shape.{text};
 ghost use Rattle.archive_forms_laws.specs.Views.{text_of};
 ghost use Rattle.archive_forms_laws.specs.Orders.{text_equality, text_order};
 ghost use Rattle.archive_forms_laws.proofs.Forms.{equivalences, total, agree};

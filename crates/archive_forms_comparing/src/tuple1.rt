@@ -1,11 +1,9 @@
 //! Tuples of one field are compared by the field.
-ghost use Rattle.std.specs.Prelude.{◌≡◌};
 ghost use Rattle.archive_forms_values.specs.Tuples.{tuple1};
-ghost use Rattle.archive_forms_laws.specs.Views.{elements_of, head_of};
 ghost use Rattle.archive_forms_laws.specs.Orders.{no_fields_equality, no_fields_order, more_fields_equality, more_fields_order, tuple_equality, tuple_order};
 ghost use Rattle.archive_forms_laws.proofs.Forms.{equivalences, total, agree};
 ghost use Rattle.archive_forms_values.specs.Parts.{HasValue};
-ghost use Rattle.archive_forms_comparing.specs.Compared.{HasPart};
+ghost use Rattle.archive_forms_comparing.specs.Calls.Parts.{FirstOfOne};
 
 use crate::fields::{compare_then, equal_then};
 use crate::{ArchivedEq, ArchivedOrd};
@@ -16,8 +14,7 @@ use std::cmp::Ordering;
 /// Returns the only field.
 pub fn first_of<'a, A: Portable>(this: &Ref<'a, ArchivedTuple1<A>>) -> Ref<'a, A>
     requires { HasValue (tuple1 A.shape) A.knows this.now.bytes.now this.now.pos }
-    ensures { HasPart (λ v x. head_of (elements_of v) ≡ x) (tuple1 A.shape) A.knows this.now.bytes.now
-        this.now.pos A.shape A.knows result.bytes.now result.pos }
+    ensures { FirstOfOne A.shape A.knows this.now result }
 {
     ArchivedTuple1::first(*this)
 }

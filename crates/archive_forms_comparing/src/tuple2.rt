@@ -1,11 +1,8 @@
 //! Tuples of two fields are compared field by field.
-ghost use Rattle.std.specs.Prelude.{◌≡◌};
-ghost use Rattle.archive_forms_values.specs.Tuples.{tuple2};
-ghost use Rattle.archive_forms_laws.specs.Views.{elements_of, head_of, rest_of};
 ghost use Rattle.archive_forms_laws.specs.Orders.{no_fields_equality, no_fields_order, more_fields_equality, more_fields_order, tuple_equality, tuple_order};
 ghost use Rattle.archive_forms_laws.proofs.Forms.{equivalences, total, agree};
-ghost use Rattle.archive_forms_values.specs.Parts.{HasValue, both};
-ghost use Rattle.archive_forms_comparing.specs.Compared.{HasPart};
+ghost use Rattle.archive_forms_values.specs.Calls.Tuples.{HasTuple2};
+ghost use Rattle.archive_forms_comparing.specs.Calls.Parts.{FirstOfTwo, SecondOfTwo};
 
 use crate::fields::{compare_then, equal_then};
 use crate::{ArchivedEq, ArchivedOrd};
@@ -15,22 +12,16 @@ use std::cmp::Ordering;
 
 /// Returns the first field.
 pub fn first_of<'a, A: Portable, B: Portable>(this: &Ref<'a, ArchivedTuple2<A, B>>) -> Ref<'a, A>
-    requires { HasValue (tuple2 A.shape B.shape) (both A.knows B.knows) this.now.bytes.now
-        this.now.pos }
-    ensures { HasPart (λ v x. head_of (elements_of v) ≡ x) (tuple2 A.shape B.shape)
-        (both A.knows B.knows) this.now.bytes.now this.now.pos A.shape A.knows result.bytes.now
-        result.pos }
+    requires { HasTuple2 A.shape B.shape A.knows B.knows this.now }
+    ensures { FirstOfTwo A.shape B.shape A.knows B.knows this.now result }
 {
     ArchivedTuple2::first(*this)
 }
 
 /// Returns the second field.
 pub fn second_of<'a, A: Portable, B: Portable>(this: &Ref<'a, ArchivedTuple2<A, B>>) -> Ref<'a, B>
-    requires { HasValue (tuple2 A.shape B.shape) (both A.knows B.knows) this.now.bytes.now
-        this.now.pos }
-    ensures { HasPart (λ v x. head_of (rest_of (elements_of v)) ≡ x) (tuple2 A.shape B.shape)
-        (both A.knows B.knows) this.now.bytes.now this.now.pos B.shape B.knows result.bytes.now
-        result.pos }
+    requires { HasTuple2 A.shape B.shape A.knows B.knows this.now }
+    ensures { SecondOfTwo A.shape B.shape A.knows B.knows this.now result }
 {
     ArchivedTuple2::second(*this)
 }

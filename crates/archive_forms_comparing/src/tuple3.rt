@@ -1,12 +1,8 @@
 //! Tuples of three fields are compared field by field.
-ghost use Rattle.std.specs.Prelude.{◌≡◌};
-ghost use Rattle.archive_forms_values.specs.Tuples.{tuple3};
-ghost use Rattle.archive_forms_laws.specs.Views.{elements_of, head_of, rest_of};
 ghost use Rattle.archive_forms_laws.specs.Orders.{no_fields_equality, no_fields_order, more_fields_equality, more_fields_order, tuple_equality, tuple_order};
 ghost use Rattle.archive_forms_laws.proofs.Forms.{equivalences, total, agree};
-ghost use Rattle.archive_forms_values.specs.Parts.{HasValue};
-ghost use Rattle.archive_forms_values.specs.Fields.{all_three};
-ghost use Rattle.archive_forms_comparing.specs.Compared.{HasPart};
+ghost use Rattle.archive_forms_values.specs.Calls.Tuples.{HasTuple3};
+ghost use Rattle.archive_forms_comparing.specs.Calls.Parts.{FirstOfThree, SecondOfThree, ThirdOfThree};
 
 use crate::fields::{compare_then, equal_then};
 use crate::{ArchivedEq, ArchivedOrd};
@@ -18,11 +14,8 @@ use std::cmp::Ordering;
 pub fn first_of<'a, A: Portable, B: Portable, C: Portable>(
     this: &Ref<'a, ArchivedTuple3<A, B, C>>,
 ) -> Ref<'a, A>
-    requires { HasValue (tuple3 A.shape B.shape C.shape) (all_three A.knows B.knows C.knows)
-        this.now.bytes.now this.now.pos }
-    ensures { HasPart (λ v x. head_of (elements_of v) ≡ x) (tuple3 A.shape B.shape C.shape)
-        (all_three A.knows B.knows C.knows) this.now.bytes.now
-        this.now.pos A.shape A.knows result.bytes.now result.pos }
+    requires { HasTuple3 A.shape B.shape C.shape A.knows B.knows C.knows this.now }
+    ensures { FirstOfThree A.shape B.shape C.shape A.knows B.knows C.knows this.now result }
 {
     ArchivedTuple3::first(*this)
 }
@@ -31,11 +24,8 @@ pub fn first_of<'a, A: Portable, B: Portable, C: Portable>(
 pub fn second_of<'a, A: Portable, B: Portable, C: Portable>(
     this: &Ref<'a, ArchivedTuple3<A, B, C>>,
 ) -> Ref<'a, B>
-    requires { HasValue (tuple3 A.shape B.shape C.shape) (all_three A.knows B.knows C.knows)
-        this.now.bytes.now this.now.pos }
-    ensures { HasPart (λ v x. head_of (rest_of (elements_of v)) ≡ x) (tuple3 A.shape B.shape C.shape)
-        (all_three A.knows B.knows C.knows) this.now.bytes.now
-        this.now.pos B.shape B.knows result.bytes.now result.pos }
+    requires { HasTuple3 A.shape B.shape C.shape A.knows B.knows C.knows this.now }
+    ensures { SecondOfThree A.shape B.shape C.shape A.knows B.knows C.knows this.now result }
 {
     ArchivedTuple3::second(*this)
 }
@@ -44,11 +34,8 @@ pub fn second_of<'a, A: Portable, B: Portable, C: Portable>(
 pub fn third_of<'a, A: Portable, B: Portable, C: Portable>(
     this: &Ref<'a, ArchivedTuple3<A, B, C>>,
 ) -> Ref<'a, C>
-    requires { HasValue (tuple3 A.shape B.shape C.shape) (all_three A.knows B.knows C.knows)
-        this.now.bytes.now this.now.pos }
-    ensures { HasPart (λ v x. head_of (rest_of (rest_of (elements_of v))) ≡ x)
-        (tuple3 A.shape B.shape C.shape) (all_three A.knows B.knows C.knows) this.now.bytes.now
-        this.now.pos C.shape C.knows result.bytes.now result.pos }
+    requires { HasTuple3 A.shape B.shape C.shape A.knows B.knows C.knows this.now }
+    ensures { ThirdOfThree A.shape B.shape C.shape A.knows B.knows C.knows this.now result }
 {
     ArchivedTuple3::third(*this)
 }

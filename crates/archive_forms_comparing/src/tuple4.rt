@@ -1,12 +1,8 @@
 //! Tuples of four fields are compared field by field.
-ghost use Rattle.std.specs.Prelude.{◌≡◌};
-ghost use Rattle.archive_forms_values.specs.Tuples.{tuple4};
-ghost use Rattle.archive_forms_laws.specs.Views.{elements_of, head_of, rest_of};
 ghost use Rattle.archive_forms_laws.specs.Orders.{no_fields_equality, no_fields_order, more_fields_equality, more_fields_order, tuple_equality, tuple_order};
 ghost use Rattle.archive_forms_laws.proofs.Forms.{equivalences, total, agree};
-ghost use Rattle.archive_forms_values.specs.Parts.{HasValue};
-ghost use Rattle.archive_forms_values.specs.Fields.{all_four};
-ghost use Rattle.archive_forms_comparing.specs.Compared.{HasPart};
+ghost use Rattle.archive_forms_values.specs.Calls.Tuples.{HasTuple4};
+ghost use Rattle.archive_forms_comparing.specs.Calls.Parts.{FirstOfFour, SecondOfFour, ThirdOfFour, FourthOfFour};
 
 use crate::fields::{compare_then, equal_then};
 use crate::{ArchivedEq, ArchivedOrd};
@@ -18,11 +14,8 @@ use std::cmp::Ordering;
 pub fn first_of<'a, A: Portable, B: Portable, C: Portable, D: Portable>(
     this: &Ref<'a, ArchivedTuple4<A, B, C, D>>,
 ) -> Ref<'a, A>
-    requires { HasValue (tuple4 A.shape B.shape C.shape D.shape)
-        (all_four A.knows B.knows C.knows D.knows) this.now.bytes.now this.now.pos }
-    ensures { HasPart (λ v x. head_of (elements_of v) ≡ x) (tuple4 A.shape B.shape C.shape D.shape)
-        (all_four A.knows B.knows C.knows D.knows) this.now.bytes.now
-        this.now.pos A.shape A.knows result.bytes.now result.pos }
+    requires { HasTuple4 A.shape B.shape C.shape D.shape A.knows B.knows C.knows D.knows this.now }
+    ensures { FirstOfFour A.shape B.shape C.shape D.shape A.knows B.knows C.knows D.knows this.now result }
 {
     ArchivedTuple4::first(*this)
 }
@@ -31,11 +24,8 @@ pub fn first_of<'a, A: Portable, B: Portable, C: Portable, D: Portable>(
 pub fn second_of<'a, A: Portable, B: Portable, C: Portable, D: Portable>(
     this: &Ref<'a, ArchivedTuple4<A, B, C, D>>,
 ) -> Ref<'a, B>
-    requires { HasValue (tuple4 A.shape B.shape C.shape D.shape)
-        (all_four A.knows B.knows C.knows D.knows) this.now.bytes.now this.now.pos }
-    ensures { HasPart (λ v x. head_of (rest_of (elements_of v)) ≡ x)
-        (tuple4 A.shape B.shape C.shape D.shape) (all_four A.knows B.knows C.knows D.knows)
-        this.now.bytes.now this.now.pos B.shape B.knows result.bytes.now result.pos }
+    requires { HasTuple4 A.shape B.shape C.shape D.shape A.knows B.knows C.knows D.knows this.now }
+    ensures { SecondOfFour A.shape B.shape C.shape D.shape A.knows B.knows C.knows D.knows this.now result }
 {
     ArchivedTuple4::second(*this)
 }
@@ -44,11 +34,8 @@ pub fn second_of<'a, A: Portable, B: Portable, C: Portable, D: Portable>(
 pub fn third_of<'a, A: Portable, B: Portable, C: Portable, D: Portable>(
     this: &Ref<'a, ArchivedTuple4<A, B, C, D>>,
 ) -> Ref<'a, C>
-    requires { HasValue (tuple4 A.shape B.shape C.shape D.shape)
-        (all_four A.knows B.knows C.knows D.knows) this.now.bytes.now this.now.pos }
-    ensures { HasPart (λ v x. head_of (rest_of (rest_of (elements_of v))) ≡ x)
-        (tuple4 A.shape B.shape C.shape D.shape) (all_four A.knows B.knows C.knows D.knows)
-        this.now.bytes.now this.now.pos C.shape C.knows result.bytes.now result.pos }
+    requires { HasTuple4 A.shape B.shape C.shape D.shape A.knows B.knows C.knows D.knows this.now }
+    ensures { ThirdOfFour A.shape B.shape C.shape D.shape A.knows B.knows C.knows D.knows this.now result }
 {
     ArchivedTuple4::third(*this)
 }
@@ -57,11 +44,8 @@ pub fn third_of<'a, A: Portable, B: Portable, C: Portable, D: Portable>(
 pub fn fourth_of<'a, A: Portable, B: Portable, C: Portable, D: Portable>(
     this: &Ref<'a, ArchivedTuple4<A, B, C, D>>,
 ) -> Ref<'a, D>
-    requires { HasValue (tuple4 A.shape B.shape C.shape D.shape)
-        (all_four A.knows B.knows C.knows D.knows) this.now.bytes.now this.now.pos }
-    ensures { HasPart (λ v x. head_of (rest_of (rest_of (rest_of (elements_of v)))) ≡ x)
-        (tuple4 A.shape B.shape C.shape D.shape) (all_four A.knows B.knows C.knows D.knows)
-        this.now.bytes.now this.now.pos D.shape D.knows result.bytes.now result.pos }
+    requires { HasTuple4 A.shape B.shape C.shape D.shape A.knows B.knows C.knows D.knows this.now }
+    ensures { FourthOfFour A.shape B.shape C.shape D.shape A.knows B.knows C.knows D.knows this.now result }
 {
     ArchivedTuple4::fourth(*this)
 }

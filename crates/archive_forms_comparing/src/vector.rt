@@ -1,12 +1,10 @@
 //! Vectors are compared by their first elements that differ, and otherwise by their lengths.
 ghost use Rattle.std.specs.Prelude.{◌≡◌, ◌<◌};
-ghost use Rattle.archive_shape.specs.ShapeLayout.Shape.Shape.{vector};
-ghost use Rattle.archive_shape.specs.ShapeLayout.Value.{Value};
-ghost use Rattle.archive_shape.specs.Key.{HeldAt};
+ghost use Rattle.archive_shape_layout.specs.Shape.Shape.{vector};
 ghost use Rattle.archive_forms_laws.specs.Orders.{vector_equality, vector_order};
 ghost use Rattle.archive_forms_laws.proofs.Forms.{equivalences, total, agree};
-ghost use Rattle.archive_forms_values.specs.Parts.{HasValue, HasElements, AreElements};
-ghost use Rattle.archive_forms_comparing.specs.Compared.{OfElements, IsElement};
+ghost use Rattle.archive_forms_values.specs.Parts.{HasValue, HasElements};
+ghost use Rattle.archive_forms_comparing.specs.Calls.Comparing.{GivesElements, GivesElement, ComparesElements};
 
 use crate::{ArchivedEq, ArchivedOrd};
 use archive_forms_values::{ArchivedVec, SliceRef};
@@ -17,8 +15,7 @@ use std::cmp::Ordering;
 pub fn vector_elements<'a, T: Portable>(this: &Ref<'a, ArchivedVec<T>>) -> SliceRef<'a, T>
     requires { HasValue (vector T.shape) T.knows this.now.bytes.now this.now.pos }
     ensures there { HasElements T.shape T.knows result.bytes.now result.pos result.len }
-    ensures elements { (v : Value) → HeldAt (vector T.shape) T.knows this.now.bytes.now this.now.pos v
-        → AreElements T.shape T.knows result.bytes.now result.pos result.len v }
+    ensures elements { GivesElements (vector T.shape) T.shape T.knows this.now result }
 {
     ArchivedVec::as_slice(*this)
 }
@@ -28,8 +25,7 @@ pub fn element<'a, T: Portable>(elements: &SliceRef<'a, T>, index: usize) -> Ref
     requires there { HasElements T.shape T.knows elements.now.bytes.now elements.now.pos
         elements.now.len }
     requires within { index < elements.now.len }
-    ensures { IsElement T.shape T.knows elements.now.bytes.now elements.now.pos elements.now.len index
-        result.bytes.now result.pos }
+    ensures { GivesElement T.shape T.knows elements.now index result }
 {
     elements.get(index).unwrap()
 }
@@ -38,8 +34,7 @@ pub fn element<'a, T: Portable>(elements: &SliceRef<'a, T>, index: usize) -> Ref
 pub fn equal_elements<T: ArchivedEq>(these: &SliceRef<'_, T>, others: &SliceRef<'_, T>) -> bool
     requires these { HasElements T.shape T.knows these.now.bytes.now these.now.pos these.now.len }
     requires others { HasElements T.shape T.knows others.now.bytes.now others.now.pos others.now.len }
-    ensures { OfElements T.shape T.knows these.now.bytes.now these.now.pos these.now.len
-        others.now.bytes.now others.now.pos others.now.len (vector_equality T.equal) result }
+    ensures { ComparesElements T.shape T.knows these.now others.now (vector_equality T.equal) result }
 {
     if these.len() != others.len() {
         return false;
@@ -59,8 +54,7 @@ pub fn compare_elements<T: ArchivedOrd>(
 ) -> Ordering
     requires these { HasElements T.shape T.knows these.now.bytes.now these.now.pos these.now.len }
     requires others { HasElements T.shape T.knows others.now.bytes.now others.now.pos others.now.len }
-    ensures { OfElements T.shape T.knows these.now.bytes.now these.now.pos these.now.len
-        others.now.bytes.now others.now.pos others.now.len (vector_order T.order) result }
+    ensures { ComparesElements T.shape T.knows these.now others.now (vector_order T.order) result }
 {
     for index in 0..these.len().min(others.len()) {
         let order = T::cmp(&element(these, index), &element(others, index));

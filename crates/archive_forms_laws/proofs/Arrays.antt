@@ -1,19 +1,19 @@
 -- Arrays are read as they are written.
 use Rattle.std.proofs.Common.{◌≡◌, ℕ, zero, suc, ◌+◌, ◌*◌, List, [], ◌∷◌, ◌++◌, refl, length, sym, ap, subst, ◌∙◌, arith, length-append, inl, inr}
-use Rattle.archive_shape.specs.ShapeLayout.Shape.{Shape, size_of}
-use Rattle.archive_shape.specs.ShapeLayout.Shape.Shape.{array}
-use Rattle.archive_shape.specs.ShapeLayout.Value.{Values}
-use Rattle.archive_shape.specs.ShapeLayout.Value.Value.{group}
-use Rattle.archive_shape.specs.ShapeLayout.Content.{Names, elements, made, shape_content, content_of}
-use Rattle.archive_shape.specs.ShapeLayout.Content.Part.{at}
-use Rattle.archive_shape.specs.ShapeLayout.Content.Label.{whole}
-use Rattle.archive_shape.specs.ShapeLayout.Content.Content.{plain}
-use Rattle.archive_shape.specs.ShapeLayout.Holds.{OpenShared}
-use Rattle.archive_shape.specs.ShapeLayout.Holds.Holds.{holds_plain}
+use Rattle.archive_shape_layout.specs.Shape.{Shape, size_of}
+use Rattle.archive_shape_layout.specs.Shape.Shape.{array}
+use Rattle.archive_shape_layout.specs.Value.{Values}
+use Rattle.archive_shape_layout.specs.Value.Value.{group}
+use Rattle.archive_shape_layout.specs.Content.{Names, elements, made, shape_content, content_of}
+use Rattle.archive_shape_layout.specs.Content.Part.{at}
+use Rattle.archive_shape_layout.specs.Content.Label.{whole}
+use Rattle.archive_shape_layout.specs.Content.Content.{plain}
+use Rattle.archive_shape_layout.specs.Holds.{OpenShared}
+use Rattle.archive_shape_layout.specs.Holds.Holds.{holds_plain}
 use Rattle.archive_shape_canonical.specs.Settled.{Fit, LeadsSettled}
 use Rattle.archive_shape_canonical.proofs.Cleanness.{clean_by, elements_own}
 use Rattle.archive_shape.specs.Bytes.{HasBytes}
-use Rattle.archive_shape.specs.ShapeWriting.declared.error.Error.{Error}
+use Rattle.archive_shape_layout.specs.declared.error.Error.{Error}
 use Rattle.archive_forms_laws.specs.State.{State, Keys, visits_of, IsConsistent, AllFrom, AreKeyedBy, advanced}
 use Rattle.archive_forms_laws.specs.Spelling.{Spelling, state_after}
 use Rattle.archive_forms_laws.specs.Spells.{CanonicalPart, SpellsAt, EachSpells, Spells}

@@ -1,10 +1,10 @@
 -- What pointers lead to: values, elements and texts.
 use Rattle.std.proofs.Common.{◌≡◌, ℕ, ◌+◌, ◌^◌, ◌<◌, List, [], ◌∷◌, ◌++◌, length, Some, refl, ◌∙◌, arith, le_refl}
 use Rattle.std.specs.Int.{w32, to_le_bytes}
-use Rattle.archive_shape.specs.ShapeLayout.Bytes.{window, word_at, target_from}
-use Rattle.archive_shape.specs.ShapeLayout.Shape.{Shape, Pointee}
-use Rattle.archive_shape.specs.ShapeLayout.Shape.Pointee.{sized, slice, str}
-use Rattle.archive_shape.specs.ShapeLayout.Content.{Names}
+use Rattle.archive_shape_layout.specs.Bytes.{window, word_at, target_from}
+use Rattle.archive_shape_layout.specs.Shape.{Shape, Pointee}
+use Rattle.archive_shape_layout.specs.Shape.Pointee.{sized, slice, str}
+use Rattle.archive_shape_layout.specs.Content.{Names}
 use Rattle.archive_shape_canonical.specs.Settled.{Fit}
 use Rattle.archive_shape.specs.Bytes.{HasBytes}
 use Rattle.archive_shape.proofs.Pieces.{stands_left, stands_right, stands_word}

@@ -1,10 +1,10 @@
 -- Sizes of structs, by sizes of fields that saturate at `usize::MAX`.
 use Rattle.std.specs.Prelude.{◌≡◌, ℕ, ◌+◌, ◌-◌, ◌^◌, ◌<◌, min, max}
 use Rattle.std.proofs.Common.{arith, ap, ◌∙◌}
-use Rattle.archive_shape.specs.ShapeLayout.Bytes.{align_up}
-use Rattle.archive_shape.specs.ShapeLayout.Shape.{Shape, Shapes, size_of, align_of, fields_end}
-use Rattle.archive_shape.specs.ShapeLayout.Shape.Shape.{tuple}
-use Rattle.archive_shape.specs.ShapeLayout.Shape.Shapes.{no_shapes, more_shapes}
+use Rattle.archive_shape_layout.specs.Bytes.{align_up}
+use Rattle.archive_shape_layout.specs.Shape.{Shape, Shapes, size_of, align_of, fields_end}
+use Rattle.archive_shape_layout.specs.Shape.Shape.{tuple}
+use Rattle.archive_shape_layout.specs.Shape.Shapes.{no_shapes, more_shapes}
 use Rattle.archive_forms_laws.proofs.Sizes.{filled_cut}
 
 -- where a field ends, after an offset that saturates

@@ -2,7 +2,7 @@
 use Rattle.std.proofs.Common.{ℕ, ◌+◌, ◌≤◌, ◌<◌, List, [], ◌∷◌, ◌++◌, replicate, arith, inl, inr, ⊎_elim}
 use Rattle.std.proofs.lemmas.Bool.{cases_lt}
 use Rattle.std.specs.Int.{Width, w32, to_le_bytes}
-use Rattle.archive_shape.specs.ShapeLayout.Holds.{Region, Ascends, end_after}
+use Rattle.archive_shape_layout.specs.Holds.{Region, Ascends, end_after}
 use Rattle.archive_shape_layout.proofs.Ascent.{Ascends-append}
 use Rattle.archive_shape_layout.proofs.Evaluated.{ascends_raised, end_below}
 use Rattle.archive_shape_canonical.proofs.Editing.{InRegions-left, InRegions-right}

@@ -1,17 +1,17 @@
 -- Where the layout has a text at a position, the bytes have it there.
 use Rattle.std.proofs.Common.{◌≡◌, ℕ, suc, ◌+◌, ◌<◌, ◌≤◌, nat_lt, nat_le, ◌||◌, Bool, true, false, true≢false, List, [], ◌∷◌, ◌++◌, length, drop, slice_index, All, Some, IsUtf8, refl, sym, ap, subst, ◌∙◌, arith, cond, ◌==◌, append-nil, length-take}
 use Rattle.std.proofs.lemmas.Bool.{ltb-true}
-use Rattle.archive_shape.specs.ShapeLayout.Bytes.{window, word_at, target_from}
-use Rattle.archive_shape.specs.ShapeLayout.Shape.Shape.{text}
-use Rattle.archive_shape.specs.ShapeLayout.Shape.Pointee.{str}
-use Rattle.archive_shape.specs.ShapeLayout.Value.{Value, Values}
-use Rattle.archive_shape.specs.ShapeLayout.Value.Value.{string}
-use Rattle.archive_shape.specs.ShapeLayout.Value.Values.{no_values, more_values}
-use Rattle.archive_shape.specs.ShapeLayout.Content.{Names, made, IsInline, before_ff, text_length, shape_content, text_content, pointee_content}
-use Rattle.archive_shape.specs.ShapeLayout.Content.Part.{at, behind}
-use Rattle.archive_shape.specs.ShapeLayout.Content.Label.{written, same}
-use Rattle.archive_shape.specs.ShapeLayout.Holds.{Region, Visit, OpenShared, Holds, HoldAll}
-use Rattle.archive_shape.specs.ShapeLayout.Holds.HoldAll.{holds_none, holds_more}
+use Rattle.archive_shape_layout.specs.Bytes.{window, word_at, target_from}
+use Rattle.archive_shape_layout.specs.Shape.Shape.{text}
+use Rattle.archive_shape_layout.specs.Shape.Pointee.{str}
+use Rattle.archive_shape_layout.specs.Value.{Value, Values}
+use Rattle.archive_shape_layout.specs.Value.Value.{string}
+use Rattle.archive_shape_layout.specs.Value.Values.{no_values, more_values}
+use Rattle.archive_shape_layout.specs.Content.{Names, made, IsInline, before_ff, text_length, shape_content, text_content, pointee_content}
+use Rattle.archive_shape_layout.specs.Content.Part.{at, behind}
+use Rattle.archive_shape_layout.specs.Content.Label.{written, same}
+use Rattle.archive_shape_layout.specs.Holds.{Region, Visit, OpenShared, Holds, HoldAll}
+use Rattle.archive_shape_layout.specs.Holds.HoldAll.{holds_none, holds_more}
 use Rattle.archive_shape_layout.proofs.Unique.{by_plain, by_claimed}
 use Rattle.archive_shape.proofs.Inverted.{IsKnown, held_is_known}
 use Rattle.archive_shape.proofs.Questions.{tested_known, followed_known}

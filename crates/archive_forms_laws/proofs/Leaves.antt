@@ -1,17 +1,17 @@
 -- Numbers, truth values and chars are read as they are written.
 use Rattle.std.proofs.Common.{◌≡◌, ℕ, ◌+◌, List, [], refl, sym, subst, ap, ◌∙◌, add-zero, inl}
-use Rattle.archive_shape.specs.ShapeLayout.Bytes.{window}
-use Rattle.archive_shape.specs.ShapeLayout.Shape.{Shape, size_of}
-use Rattle.archive_shape.specs.ShapeLayout.Shape.Shape.{number, nonzero, truth, character, text, tuple, array, option, result, choice, box, vector, shared, weak, tree, table, index_map, named}
-use Rattle.archive_shape.specs.ShapeLayout.Value.{Value}
-use Rattle.archive_shape.specs.ShapeLayout.Content.{Names, made, shape_content}
-use Rattle.archive_shape.specs.ShapeLayout.Content.Label.{leaf}
-use Rattle.archive_shape.specs.ShapeLayout.Content.Content.{plain}
-use Rattle.archive_shape.specs.ShapeLayout.Content.Part.{at}
-use Rattle.archive_shape.specs.ShapeLayout.Holds.{Visit, OpenShared, Ascends}
-use Rattle.archive_shape.specs.ShapeLayout.Holds.Holds.{holds_plain}
-use Rattle.archive_shape.specs.ShapeLayout.Holds.HoldAll.{holds_none}
-use Rattle.archive_shape.specs.ShapeLayout.Numbers.{IsLeafShape}
+use Rattle.archive_shape_layout.specs.Bytes.{window}
+use Rattle.archive_shape_layout.specs.Shape.{Shape, size_of}
+use Rattle.archive_shape_layout.specs.Shape.Shape.{number, nonzero, truth, character, text, tuple, array, option, result, choice, box, vector, shared, weak, tree, table, index_map, named}
+use Rattle.archive_shape_layout.specs.Value.{Value}
+use Rattle.archive_shape_layout.specs.Content.{Names, made, shape_content}
+use Rattle.archive_shape_layout.specs.Content.Label.{leaf}
+use Rattle.archive_shape_layout.specs.Content.Content.{plain}
+use Rattle.archive_shape_layout.specs.Content.Part.{at}
+use Rattle.archive_shape_layout.specs.Holds.{Visit, OpenShared, Ascends}
+use Rattle.archive_shape_layout.specs.Holds.Holds.{holds_plain}
+use Rattle.archive_shape_layout.specs.Holds.HoldAll.{holds_none}
+use Rattle.archive_shape_layout.specs.Numbers.{IsLeafShape}
 use Rattle.archive_shape_canonical.specs.Settled.{Fit}
 use Rattle.archive_shape_canonical.specs.Clean.{IsIn, IsFilled, field_size}
 use Rattle.archive_shape_canonical.proofs.Cleanness.{clean_by}

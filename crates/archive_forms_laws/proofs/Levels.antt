@@ -1,13 +1,13 @@
 -- Values of types that hold themselves are read as they are written.
 use Rattle.std.proofs.Common.{◌≡◌, ℕ, zero, suc, ◌+◌, ◌≤◌, ◌<◌, [], ◌∷◌, Some, refl, sym, subst, ◌∙◌, arith, inl, inr}
-use Rattle.archive_shape.specs.ShapeLayout.Bytes.{align_up}
-use Rattle.archive_shape.specs.ShapeLayout.Shape.{Shape, Alignment, alignment_bytes, size_of, align_of}
-use Rattle.archive_shape.specs.ShapeLayout.Shape.Shape.{named, option, box}
-use Rattle.archive_shape.specs.ShapeLayout.Shape.Pointee.{sized}
-use Rattle.archive_shape.specs.ShapeLayout.Content.{Names, made, shape_named}
-use Rattle.archive_shape.specs.ShapeLayout.Content.Part.{at}
-use Rattle.archive_shape.specs.ShapeLayout.Content.Label.{same}
-use Rattle.archive_shape.specs.ShapeLayout.Content.Content.{plain}
+use Rattle.archive_shape_layout.specs.Bytes.{align_up}
+use Rattle.archive_shape_layout.specs.Shape.{Shape, Alignment, alignment_bytes, size_of, align_of}
+use Rattle.archive_shape_layout.specs.Shape.Shape.{named, option, box}
+use Rattle.archive_shape_layout.specs.Shape.Pointee.{sized}
+use Rattle.archive_shape_layout.specs.Content.{Names, made, shape_named}
+use Rattle.archive_shape_layout.specs.Content.Part.{at}
+use Rattle.archive_shape_layout.specs.Content.Label.{same}
+use Rattle.archive_shape_layout.specs.Content.Content.{plain}
 use Rattle.archive_shape_canonical.specs.Settled.{Fit}
 use Rattle.archive_shape_canonical.proofs.Cleanness.{clean_by}
 use Rattle.archive_forms_laws.proofs.Named.{named_is}

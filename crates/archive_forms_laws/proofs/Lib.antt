@@ -22,7 +22,6 @@ pub mod Progress
 pub mod Regions
 pub mod Resolved
 pub mod Samples
-pub mod ShapeCanonical
 pub mod Shared
 pub mod Sizes
 pub mod SpellingResults

@@ -1,14 +1,14 @@
 -- Values that are archived where there is room for them are read as they are written.
 use Rattle.std.proofs.Common.{ℕ, true, false, inl, inr}
-use Rattle.archive_shape.specs.ShapeLayout.Shape.{Shape}
-use Rattle.archive_shape.specs.ShapeLayout.Content.{Names}
+use Rattle.archive_shape_layout.specs.Shape.{Shape}
+use Rattle.archive_shape_layout.specs.Content.{Names}
 use Rattle.archive_shape_canonical.specs.Settled.{Fit}
-use Rattle.archive_shape.specs.ShapeWriting.declared.error.Error.{Error}
+use Rattle.archive_shape_layout.specs.declared.error.Error.{Error}
 use Rattle.archive_forms_laws.specs.Spelling.{Spelling}
 use Rattle.archive_forms_laws.specs.Spells.{Spells, SpellsAt}
 use Rattle.archive_forms_laws.specs.Limits.{limited, usize_spelling, isize_spelling}
 use Rattle.archive_forms_laws.proofs.Leaves.{leaf_spells}
-use Rattle.archive_shape.specs.ShapeLayout.Shape.Shape.{number}
+use Rattle.archive_shape_layout.specs.Shape.Shape.{number}
 use Rattle.std.specs.Int.{w32}
 
 module _ {A R : Type 0} (fit : Fit) (s : Shape) (knows : Names → Type 0) (has_room : A → Type 0) (refusal : Error) (w : Spelling A R) where

@@ -2,7 +2,7 @@
 use Rattle.std.proofs.Common.{◌≡◌, ℕ, length, Option, Some, None, refl}
 use Rattle.std.specs.Int.{w32, cast_unsigned}
 use Rattle.archive_shape_canonical.specs.Canonical.{AreBytes}
-use Rattle.archive_shape.specs.ShapeWriting.declared.error.Error.{Error}
+use Rattle.archive_shape_layout.specs.declared.error.Error.{Error}
 use Rattle.archive_shape.specs.Offsets.{difference}
 use Rattle.archive_forms_laws.specs.Links.{link_bytes, LinkFits, LinkRefused}
 use Rattle.archive_forms_laws.proofs.Gaps.{bytes_word}

@@ -1,12 +1,12 @@
 -- The content of a part whose shape is the name of a type.
 use Rattle.std.proofs.Common.{◌≡◌, ℕ, ◌==◌, true, List, [], ◌∷◌, Some, refl}
 use Rattle.std.proofs.lemmas.Bool.{eq-eqb}
-use Rattle.archive_shape.specs.ShapeLayout.Shape.{Shape, Alignment, alignment_bytes, size_of, align_of}
-use Rattle.archive_shape.specs.ShapeLayout.Shape.Shape.{named}
-use Rattle.archive_shape.specs.ShapeLayout.Content.{Names, content_of, choose, shape_content, shape_named}
-use Rattle.archive_shape.specs.ShapeLayout.Content.Part.{at}
-use Rattle.archive_shape.specs.ShapeLayout.Content.Label.{same}
-use Rattle.archive_shape.specs.ShapeLayout.Content.Content.{plain}
+use Rattle.archive_shape_layout.specs.Shape.{Shape, Alignment, alignment_bytes, size_of, align_of}
+use Rattle.archive_shape_layout.specs.Shape.Shape.{named}
+use Rattle.archive_shape_layout.specs.Content.{Names, content_of, choose, shape_content, shape_named}
+use Rattle.archive_shape_layout.specs.Content.Part.{at}
+use Rattle.archive_shape_layout.specs.Content.Label.{same}
+use Rattle.archive_shape_layout.specs.Content.Content.{plain}
 
 -- where a name is, there is the shape that it denotes
 pub named_is :

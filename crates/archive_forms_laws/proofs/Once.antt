@@ -1,6 +1,6 @@
 -- There is at most one text at a position.
 use Rattle.std.proofs.Common.{◌≡◌, ℕ, List, Option, Some, refl, sym, ap, ◌∙◌}
-use Rattle.archive_shape.specs.ShapeLayout.Bytes.{window}
+use Rattle.archive_shape_layout.specs.Bytes.{window}
 use Rattle.archive_forms_laws.specs.Text.{LiesAt, OneText}
 use Rattle.archive_forms_laws.specs.Text.LiesAt.{inline, out_of_line}
 

@@ -2,17 +2,17 @@
 use Rattle.std.proofs.Common.{◌≡◌, ℕ, zero, suc, Some, ◌+◌, ◌-◌, ◌≤◌, ◌<◌, List, [], ◌∷◌, ◌++◌, length, length-append, slice_index, refl, sym, ap, subst, ◌∙◌, arith, ◌⊎◌, inl, inr, ⊎_elim}
 use Rattle.std.proofs.lemmas.Bool.{cases_lt}
 use Rattle.std.proofs.lemmas.List.{length-replicate}
-use Rattle.archive_shape.specs.ShapeLayout.Bytes.{window, align_up}
-use Rattle.archive_shape.specs.ShapeLayout.Shape.{Shape, Shapes, size_of, align_of, aligns_of, payloads_end}
-use Rattle.archive_shape.specs.ShapeLayout.Shape.Shape.{choice}
-use Rattle.archive_shape.specs.ShapeLayout.Shape.Shapes.{no_shapes, more_shapes}
-use Rattle.archive_shape.specs.ShapeLayout.Value.Value.{chosen}
-use Rattle.archive_shape.specs.ShapeLayout.Value.Values.{no_values, more_values}
-use Rattle.archive_shape.specs.ShapeLayout.Content.{Names, made, shape_content, shape_tagged, option_content}
-use Rattle.archive_shape.specs.ShapeLayout.Content.Part.{at}
-use Rattle.archive_shape.specs.ShapeLayout.Content.Label.{tagged}
-use Rattle.archive_shape.specs.ShapeLayout.Content.Content.{plain}
-use Rattle.archive_shape.specs.ShapeLayout.Holds.{OpenShared}
+use Rattle.archive_shape_layout.specs.Bytes.{window, align_up}
+use Rattle.archive_shape_layout.specs.Shape.{Shape, Shapes, size_of, align_of, aligns_of, payloads_end}
+use Rattle.archive_shape_layout.specs.Shape.Shape.{choice}
+use Rattle.archive_shape_layout.specs.Shape.Shapes.{no_shapes, more_shapes}
+use Rattle.archive_shape_layout.specs.Value.Value.{chosen}
+use Rattle.archive_shape_layout.specs.Value.Values.{no_values, more_values}
+use Rattle.archive_shape_layout.specs.Content.{Names, made, shape_content, shape_tagged, option_content}
+use Rattle.archive_shape_layout.specs.Content.Part.{at}
+use Rattle.archive_shape_layout.specs.Content.Label.{tagged}
+use Rattle.archive_shape_layout.specs.Content.Content.{plain}
+use Rattle.archive_shape_layout.specs.Holds.{OpenShared}
 use Rattle.archive_shape_layout.proofs.Framed.{le_align_up}
 use Rattle.archive_shape_canonical.specs.Settled.{Fit}
 use Rattle.archive_shape_canonical.specs.Clean.{IsIn, InParts, IsFilled, field_size}

@@ -2,10 +2,10 @@
 use Rattle.std.proofs.Common.{◌≡◌, ℕ, ◌==◌, cond, Bool, true, false, List, [], ◌∷◌, refl, sym, subst, ap, ap₂, ◌∙◌, Option, Some, None, Ok, eq-eqb, eqb-true, inl, inr}
 use Rattle.std.proofs.lemmas.Bool.{eqb-false}
 use Rattle.std.specs.Prelude.{Result}
-use Rattle.archive_shape.specs.ShapeLayout.Holds.{Visit}
-use Rattle.archive_shape.specs.ShapeWriting.Progress.{Progress, IsSet, Starts, Finishes}
-use Rattle.archive_shape.specs.ShapeWriting.Progress.Progress.{unmet, begun, ended}
-use Rattle.archive_shape.specs.ShapeWriting.declared.error.Error.{Error}
+use Rattle.archive_shape_layout.specs.Holds.{Visit}
+use Rattle.archive_shape_layout.specs.Progress.{Progress, IsSet, Starts, Finishes}
+use Rattle.archive_shape_layout.specs.Progress.Progress.{unmet, begun, ended}
+use Rattle.archive_shape_layout.specs.declared.error.Error.{Error}
 use Rattle.archive_forms_laws.specs.State.{State, Met, visit_of_key, with_begun, IsNoneOf, IsOneOf}
 use Rattle.archive_forms_laws.specs.Serializing.{progress, progress_by, is_begun, Knows}
 

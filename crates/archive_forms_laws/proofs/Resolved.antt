@@ -2,14 +2,14 @@
 use Rattle.std.proofs.Common.{◌≡◌, ℕ, ◌+◌, ◌≤◌, ◌<◌, ◌^◌, List, ◌++◌, length, Ok, Err, sym, ap, subst, ◌∙◌, arith, le_refl, ◌⊎◌, inl, inr, ⊎_elim}
 use Rattle.std.specs.Prelude.{Result, MatchResult, IsUtf8}
 use Rattle.std.specs.Int.{w32, to_le_bytes}
-use Rattle.archive_shape.specs.ShapeLayout.Shape.{Shape, size_of}
-use Rattle.archive_shape.specs.ShapeLayout.Shape.Shape.{text}
-use Rattle.archive_shape.specs.ShapeLayout.Edit.{Spares}
+use Rattle.archive_shape_layout.specs.Shape.{Shape, size_of}
+use Rattle.archive_shape_layout.specs.Shape.Shape.{text}
+use Rattle.archive_shape_layout.specs.Edit.{Spares}
 use Rattle.archive_shape.specs.Bytes.{overwrite}
 use Rattle.archive_shape.specs.Offsets.{FitsOffset, offset_bytes}
 use Rattle.archive_shape.proofs.Spared.{spares_same, spares_overwritten}
-use Rattle.archive_shape.specs.ShapeWriting.declared.error.Error.{Error}
-use Rattle.archive_shape.specs.ShapeWriting.declared.error.Error.TheVariants.{IsizeOverflow, LengthTooLarge}
+use Rattle.archive_shape_layout.specs.declared.error.Error.{Error}
+use Rattle.archive_shape_layout.specs.declared.error.Error.TheVariants.{IsizeOverflow, LengthTooLarge}
 use Rattle.archive_forms_laws.specs.Spelling.{Spelling}
 use Rattle.archive_forms_laws.specs.Pointers.{box_spelling, slice_spelling}
 use Rattle.archive_forms_laws.specs.Texts.{is_short, text_own, text_own_fits, text_own_refused, text_spelling}

@@ -3,12 +3,12 @@ use Rattle.std.proofs.Common.{◌≡◌, ℕ, ◌==◌, ◌<◌, ◌^◌, cond, 
 use Rattle.std.specs.Int.{w8, w32, w64, to_le_bytes}
 use Rattle.std.proofs.lemmas.Int.{ints}
 use lib.Utf8.{encode}
-use Rattle.archive_shape.specs.ShapeLayout.Bytes.{align_up}
-use Rattle.archive_shape.specs.ShapeLayout.Shape.Shape.{shared, box, option, number, text}
-use Rattle.archive_shape.specs.ShapeLayout.Shape.Pointee.{sized}
-use Rattle.archive_shape.specs.ShapeLayout.Value.Value.{natural}
-use Rattle.archive_shape.specs.ShapeLayout.Content.{Names, shape_content, number_value}
-use Rattle.archive_shape.specs.ShapeLayout.Numbers.{Reads}
+use Rattle.archive_shape_layout.specs.Bytes.{align_up}
+use Rattle.archive_shape_layout.specs.Shape.Shape.{shared, box, option, number, text}
+use Rattle.archive_shape_layout.specs.Shape.Pointee.{sized}
+use Rattle.archive_shape_layout.specs.Value.Value.{natural}
+use Rattle.archive_shape_layout.specs.Content.{Names, shape_content, number_value}
+use Rattle.archive_shape_layout.specs.Numbers.{Reads}
 use Rattle.archive_shape_canonical.specs.Settled.{Fit}
 use Rattle.archive_forms_laws.specs.State.{Keys, SharedValue, AreOneToOne, initial}
 use Rattle.archive_forms_laws.specs.Spells.{Spells}

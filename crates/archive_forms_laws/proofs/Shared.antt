@@ -2,16 +2,16 @@
 use Rattle.std.proofs.Common.{◌≡◌, ℕ, ◌+◌, ◌≤◌, ◌<◌, ◌==◌, cond, Bool, true, false, List, [], ◌∷◌, ◌++◌, length, refl, sym, ap, ap₂, subst, ◌∙◌, arith, Option, Some, None, inl, inr, ⊎_elim, length-append, add-zero, eq-eqb, slice_index, le_refl}
 use Rattle.std.proofs.lemmas.Bool.{cases_lt}
 use Rattle.std.proofs.lemmas.List.{length-replicate}
-use Rattle.archive_shape.specs.ShapeLayout.Shape.{Shape, Pointee}
-use Rattle.archive_shape.specs.ShapeLayout.Shape.Shape.{shared, box}
-use Rattle.archive_shape.specs.ShapeLayout.Shape.Pointee.{sized, slice, str}
-use Rattle.archive_shape.specs.ShapeLayout.Value.{Value}
-use Rattle.archive_shape.specs.ShapeLayout.Value.Value.{counted}
-use Rattle.archive_shape.specs.ShapeLayout.Content.{Names, Part, content_of, shape_content, shared_content, following}
-use Rattle.archive_shape.specs.ShapeLayout.Content.Part.{at, behind}
-use Rattle.archive_shape.specs.ShapeLayout.Content.Content.{counting}
-use Rattle.archive_shape.specs.ShapeLayout.Holds.{Visit, OpenShared, Ascends, visited, open_at}
-use Rattle.archive_shape.specs.ShapeLayout.Holds.Holds.{holds_first, holds_later}
+use Rattle.archive_shape_layout.specs.Shape.{Shape, Pointee}
+use Rattle.archive_shape_layout.specs.Shape.Shape.{shared, box}
+use Rattle.archive_shape_layout.specs.Shape.Pointee.{sized, slice, str}
+use Rattle.archive_shape_layout.specs.Value.{Value}
+use Rattle.archive_shape_layout.specs.Value.Value.{counted}
+use Rattle.archive_shape_layout.specs.Content.{Names, Part, content_of, shape_content, shared_content, following}
+use Rattle.archive_shape_layout.specs.Content.Part.{at, behind}
+use Rattle.archive_shape_layout.specs.Content.Content.{counting}
+use Rattle.archive_shape_layout.specs.Holds.{Visit, OpenShared, Ascends, visited, open_at}
+use Rattle.archive_shape_layout.specs.Holds.Holds.{holds_first, holds_later}
 use Rattle.archive_shape_layout.proofs.Evaluated.{ascends_raised}
 use Rattle.archive_shape_canonical.specs.Settled.{Fit}
 use Rattle.archive_shape_canonical.specs.Sharing.{end_of_shared, erased}
@@ -19,7 +19,7 @@ use Rattle.archive_shape_canonical.specs.Clean.{IsClean}
 use Rattle.archive_shape_canonical.proofs.Cleanness.{clean_by}
 use Rattle.archive_shape.specs.Bytes.{HasBytes, zeros}
 use Rattle.archive_shape.proofs.Pieces.{stands_left, stands_right, zero_stands}
-use Rattle.archive_shape.specs.ShapeWriting.declared.error.Error.{Error}
+use Rattle.archive_shape_layout.specs.declared.error.Error.{Error}
 use Rattle.archive_forms_laws.specs.State.{State, Met, Keys, SharedValue, IsConsistent, AllFrom, AreKeyedBy, advanced, with_begun, visits_of, visit_of_key}
 use Rattle.archive_forms_laws.specs.Spelling.{Spelling}
 use Rattle.archive_forms_laws.specs.Spells.{CanonicalPart, Spells, SpellsAt, SpellsBehind}

@@ -2,15 +2,15 @@
 use Rattle.std.proofs.Common.{◌≡◌, ℕ, ◌+◌, ◌≤◌, max, List, [], ◌∷◌, length, slice_index, refl, arith, Ok, Err}
 use Rattle.std.specs.Prelude.{Result}
 use Rattle.std.proofs.lemmas.List.{length-replicate}
-use Rattle.archive_shape.specs.ShapeLayout.Shape.{Shape, size_of, align_of}
-use Rattle.archive_shape.specs.ShapeLayout.Shape.Shape.{result}
-use Rattle.archive_shape.specs.ShapeLayout.Content.{Names, shape_content, choose}
-use Rattle.archive_shape.specs.ShapeLayout.Content.Part.{at}
-use Rattle.archive_shape.specs.ShapeLayout.Content.Label.{tagged}
-use Rattle.archive_shape.specs.ShapeLayout.Content.Content.{plain}
+use Rattle.archive_shape_layout.specs.Shape.{Shape, size_of, align_of}
+use Rattle.archive_shape_layout.specs.Shape.Shape.{result}
+use Rattle.archive_shape_layout.specs.Content.{Names, shape_content, choose}
+use Rattle.archive_shape_layout.specs.Content.Part.{at}
+use Rattle.archive_shape_layout.specs.Content.Label.{tagged}
+use Rattle.archive_shape_layout.specs.Content.Content.{plain}
 use Rattle.archive_shape_layout.proofs.Framed.{le_align_up}
 use Rattle.archive_shape_canonical.specs.Settled.{Fit}
-use Rattle.archive_shape.specs.ShapeWriting.declared.error.Error.{Error}
+use Rattle.archive_shape_layout.specs.declared.error.Error.{Error}
 use Rattle.archive_forms_laws.specs.Spelling.{Spelling}
 use Rattle.archive_forms_laws.specs.Spells.{SpellsAt, Spells}
 use Rattle.archive_shape_canonical.specs.Canonical.{AreBytes}

@@ -1,6 +1,6 @@
 -- What holds of states: a later state is consistent too, and what is found under a key.
 use Rattle.std.proofs.Common.{◌≡◌, ℕ, inl, inr, ◌+◌, ◌≤◌, ◌<◌, ◌==◌, cond, Bool, true, false, List, [], ◌∷◌, refl, sym, subst, ap, arith, Some, None, eq-eqb, eqb-true}
-use Rattle.archive_shape.specs.ShapeLayout.Holds.{Visit, OpenShared, visited, open_at}
+use Rattle.archive_shape_layout.specs.Holds.{Visit, OpenShared, visited, open_at}
 use Rattle.archive_shape_canonical.specs.Sharing.{erased}
 use Rattle.archive_forms_laws.specs.State.{State, IsConsistent, Met, advanced, AllBefore, AreNewKeys, AllFrom, AreDescending, AreKeyedBy, Keys, IsNewKey, IsNoneOf, IsOneOf, visits_of, visit_of_key}
 

@@ -1,12 +1,12 @@
 -- What the layout has for a text, by its own bytes.
 use Rattle.std.proofs.Common.{◌≡◌, ℕ, zero, suc, ◌<◌, ◌==◌, nat_lt, Bool, true, false, cond, List, [], ◌∷◌, length, take, slice_index, Option, Some, refl, sym, ap, subst, ◌∙◌, lt-ltb}
-use Rattle.archive_shape.specs.ShapeLayout.Bytes.{word_at, target_from}
-use Rattle.archive_shape.specs.ShapeLayout.Shape.Shape.{text}
-use Rattle.archive_shape.specs.ShapeLayout.Shape.Pointee.{str}
-use Rattle.archive_shape.specs.ShapeLayout.Content.{Names, Content, content_of, choose, following, IsInline, before_ff, text_length, shape_content, text_content}
-use Rattle.archive_shape.specs.ShapeLayout.Content.Part.{at, behind}
-use Rattle.archive_shape.specs.ShapeLayout.Content.Label.{written, same}
-use Rattle.archive_shape.specs.ShapeLayout.Content.Content.{plain}
+use Rattle.archive_shape_layout.specs.Bytes.{word_at, target_from}
+use Rattle.archive_shape_layout.specs.Shape.Shape.{text}
+use Rattle.archive_shape_layout.specs.Shape.Pointee.{str}
+use Rattle.archive_shape_layout.specs.Content.{Names, Content, content_of, choose, following, IsInline, before_ff, text_length, shape_content, text_content}
+use Rattle.archive_shape_layout.specs.Content.Part.{at, behind}
+use Rattle.archive_shape_layout.specs.Content.Label.{written, same}
+use Rattle.archive_shape_layout.specs.Content.Content.{plain}
 use Rattle.archive_forms_laws.specs.Text.{own_bytes}
 
 -- the bytes before the first ff of n bytes are the first of them

@@ -4,17 +4,17 @@ use Rattle.std.proofs.lemmas.Bool.Decides.{nat_tests}
 use Rattle.std.proofs.lemmas.Bool.{cases_lt, leb-true, leb-false}
 use Rattle.std.proofs.lemmas.List.{length-replicate, get_or-replicate, get_or-append_right}
 use Rattle.std.specs.Int.{w32, to_le_bytes, cast_unsigned}
-use Rattle.archive_shape.specs.ShapeLayout.Bytes.{window, word_at, target_from, align_up}
-use Rattle.archive_shape.specs.ShapeLayout.Shape.Shape.{text, box}
-use Rattle.archive_shape.specs.ShapeLayout.Shape.Pointee.{str}
-use Rattle.archive_shape.specs.ShapeLayout.Value.Value.{string}
-use Rattle.archive_shape.specs.ShapeLayout.Content.{Names, made, pointee_content, shape_content, content_of, IsInline, text_length}
-use Rattle.archive_shape.specs.ShapeLayout.Content.Part.{at, behind}
-use Rattle.archive_shape.specs.ShapeLayout.Content.Label.{written, same}
-use Rattle.archive_shape.specs.ShapeLayout.Content.Content.{plain, claimed}
-use Rattle.archive_shape.specs.ShapeLayout.Holds.{Visit, OpenShared, Region, Ascends}
-use Rattle.archive_shape.specs.ShapeLayout.Holds.Holds.{holds_plain, holds_claimed}
-use Rattle.archive_shape.specs.ShapeLayout.Holds.HoldAll.{holds_none}
+use Rattle.archive_shape_layout.specs.Bytes.{window, word_at, target_from, align_up}
+use Rattle.archive_shape_layout.specs.Shape.Shape.{text, box}
+use Rattle.archive_shape_layout.specs.Shape.Pointee.{str}
+use Rattle.archive_shape_layout.specs.Value.Value.{string}
+use Rattle.archive_shape_layout.specs.Content.{Names, made, pointee_content, shape_content, content_of, IsInline, text_length}
+use Rattle.archive_shape_layout.specs.Content.Part.{at, behind}
+use Rattle.archive_shape_layout.specs.Content.Label.{written, same}
+use Rattle.archive_shape_layout.specs.Content.Content.{plain, claimed}
+use Rattle.archive_shape_layout.specs.Holds.{Visit, OpenShared, Region, Ascends}
+use Rattle.archive_shape_layout.specs.Holds.Holds.{holds_plain, holds_claimed}
+use Rattle.archive_shape_layout.specs.Holds.HoldAll.{holds_none}
 use Rattle.archive_shape_layout.proofs.Texts.{StartsFilled, text_before, starts_inline}
 use Rattle.archive_shape_layout.proofs.Utf8.{utf8_byte}
 use Rattle.archive_shape_canonical.specs.Settled.{Fit}
@@ -25,7 +25,7 @@ use Rattle.archive_shape.proofs.Pieces.{stands_left, stands_right, stands_word}
 use Rattle.archive_shape.specs.Offsets.{difference, FitsOffset, offset_bytes}
 use Rattle.archive_forms_laws.specs.Text.{own_bytes}
 use Rattle.archive_forms_laws.proofs.TextContent.{inline_is, far_is}
-use Rattle.archive_shape.specs.ShapeWriting.declared.error.Error.{Error}
+use Rattle.archive_shape_layout.specs.declared.error.Error.{Error}
 use Rattle.archive_forms_laws.specs.State.{State, visits_of}
 use Rattle.archive_forms_laws.specs.Spells.{CanonicalPart, SpellsAt, Spells}
 use Rattle.archive_shape_canonical.specs.Canonical.{AreBytes}

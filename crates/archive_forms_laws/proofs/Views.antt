@@ -1,8 +1,8 @@
 -- Values that are seen as others, resolvers that are kept as others, names of types that are known, and lists of
 -- values.
 use Rattle.std.proofs.Common.{◌≡◌, List, [], ◌∷◌, subst}
-use Rattle.archive_shape.specs.ShapeLayout.Shape.{Shape}
-use Rattle.archive_shape.specs.ShapeLayout.Content.{Names}
+use Rattle.archive_shape_layout.specs.Shape.{Shape}
+use Rattle.archive_shape_layout.specs.Content.{Names}
 use Rattle.archive_shape_canonical.specs.Settled.{Fit}
 use Rattle.archive_shape.specs.Bytes.{HasBytes}
 use Rattle.archive_forms_laws.specs.Spelling.{Spelling}

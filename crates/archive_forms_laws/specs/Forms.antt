@@ -1,8 +1,8 @@
 -- How values without data are archived, and values that are seen as others.
 use Rattle.std.specs.Prelude.{◌≡◌, ℕ, List, [], length, ⊤}
-use Rattle.archive_shape.specs.ShapeLayout.Shape.{Shape, size_of}
-use Rattle.archive_shape.specs.ShapeLayout.Value.{Value}
-use Rattle.archive_shape.specs.ShapeLayout.Numbers.{Reads}
+use Rattle.archive_shape_layout.specs.Shape.{Shape, size_of}
+use Rattle.archive_shape_layout.specs.Value.{Value}
+use Rattle.archive_shape_layout.specs.Numbers.{Reads}
 use Rattle.archive_shape_canonical.specs.Sharing.{erased}
 use Rattle.archive_forms_laws.specs.Spelling.{Spelling}
 use Rattle.archive_shape_canonical.specs.Canonical.{AreBytes}

@@ -1,4 +1,3 @@
-pub mod ArchiveShape
 pub mod Arrays
 pub mod Fields
 pub mod Forms
@@ -9,13 +8,12 @@ pub mod Options
 pub mod OrderingLaws
 pub mod Orders
 pub mod Payloads
+pub mod Placing
 pub mod Pointers
 pub mod Regions
 pub mod Results
 pub mod Sample
 pub mod Serializing
-pub mod ShapeCanonical
-pub mod ShapeWriting
 pub mod Shared
 pub mod Spelling
 pub mod SpellingLaws

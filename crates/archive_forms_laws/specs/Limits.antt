@@ -1,10 +1,10 @@
 -- How values of a type are archived where own bytes have room for some of its values only.
 use Rattle.std.specs.Prelude.{◌≡◌, ℕ, ℤ, ◌^◌, ◌<◌, ◌⊎◌, true, false, FitsSigned}
 use Rattle.std.specs.Int.{w32, to_le_bytes, cast_unsigned}
-use Rattle.archive_shape.specs.ShapeLayout.Shape.Shape.{number}
-use Rattle.archive_shape.specs.ShapeLayout.Value.Value.{natural, integer}
-use Rattle.archive_shape.specs.ShapeWriting.declared.error.Error.{Error}
-use Rattle.archive_shape.specs.ShapeWriting.declared.error.Error.TheVariants.{IsizeOverflow, LengthTooLarge}
+use Rattle.archive_shape_layout.specs.Shape.Shape.{number}
+use Rattle.archive_shape_layout.specs.Value.Value.{natural, integer}
+use Rattle.archive_shape_layout.specs.declared.error.Error.{Error}
+use Rattle.archive_shape_layout.specs.declared.error.Error.TheVariants.{IsizeOverflow, LengthTooLarge}
 use Rattle.archive_forms_laws.specs.Spelling.{Spelling}
 use Rattle.archive_forms_laws.specs.Forms.{leaf_spelling}
 

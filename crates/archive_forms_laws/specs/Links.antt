@@ -1,8 +1,8 @@
 -- How a pointer that may lead to nothing is archived.
 use Rattle.std.specs.Prelude.{◌≡◌, ℕ, List, Option, Some, None, ⊤}
 use Rattle.std.specs.Int.{w32, to_le_bytes}
-use Rattle.archive_shape.specs.ShapeWriting.declared.error.Error.{Error}
-use Rattle.archive_shape.specs.ShapeWriting.declared.error.Error.TheVariants.{IsizeOverflow}
+use Rattle.archive_shape_layout.specs.declared.error.Error.{Error}
+use Rattle.archive_shape_layout.specs.declared.error.Error.TheVariants.{IsizeOverflow}
 use Rattle.archive_shape.specs.Offsets.{FitsOffset, offset_bytes}
 
 -- a pointer to a position; the offset 1 leads to nothing

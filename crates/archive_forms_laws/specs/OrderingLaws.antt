@@ -4,7 +4,7 @@ use Rattle.std.specs.Cmp.{IsEquivalence, IsTotalOrder}
 use Rattle.std.specs.declared.cmp.Ordering.{Ordering}
 use Rattle.std.specs.Ordering.{is_eq}
 use Rattle.std.specs.Hash.{Alike}
-use Rattle.archive_shape.specs.ShapeLayout.Value.{Value}
+use Rattle.archive_shape_layout.specs.Value.{Value}
 use Rattle.archive_forms_laws.specs.Views.{natural_of, integer_of, truth_of}
 use Rattle.archive_forms_laws.specs.Orders.{Equality, Order, Hashed, Comparison, natural_equality, natural_order, integer_equality, integer_order, truth_equality, truth_order, text_equality, text_order, text_hashed, option_equality, option_order, option_hashed, result_equality, result_order, result_hashed, vector_equality, vector_order, vector_hashed, no_fields_equality, no_fields_order, no_fields_hashed, more_fields_equality, more_fields_order, more_fields_hashed, tuple_equality, tuple_order, tuple_hashed, unit_equality, unit_order, unit_hashed}
 

@@ -8,7 +8,7 @@ use Rattle.std.specs.Cmp.Lexicographic.{pointwise, slice_cmp}
 use Rattle.std.specs.Option.{option_eq, option_cmp}
 use Rattle.std.specs.Result.{result_eq, result_cmp}
 use Rattle.std.specs.Hash as fed
-use Rattle.archive_shape.specs.ShapeLayout.Value.{Value}
+use Rattle.archive_shape_layout.specs.Value.{Value}
 use Rattle.archive_forms_laws.specs.Views.{natural_of, integer_of, truth_of, text_of, option_of, result_of, elements_of, head_of, rest_of}
 
 -- whether two values are equal, how they are ordered, and what is written to a hasher

@@ -1,7 +1,7 @@
 -- How a value after a tag is archived, as that of a result or of a variant of an enum.
 use Rattle.std.specs.Prelude.{ℕ, ◌+◌}
-use Rattle.archive_shape.specs.ShapeLayout.Value.Value.{chosen}
-use Rattle.archive_shape.specs.ShapeLayout.Value.Values.{no_values, more_values}
+use Rattle.archive_shape_layout.specs.Value.Value.{chosen}
+use Rattle.archive_shape_layout.specs.Value.Values.{no_values, more_values}
 use Rattle.archive_forms_laws.specs.Spelling.{Spelling}
 use Rattle.archive_forms_laws.specs.Options.{tagged_bytes}
 

@@ -1,13 +1,13 @@
 -- How contiguous values are archived: their data one after the other, and after it the region of their own bytes.
 use Rattle.std.specs.Prelude.{◌≡◌, ℕ, ◌+◌, ◌-◌, ◌^◌, ◌<◌, ◌≤◌, List, [], ◌∷◌, ◌++◌, length, ⊤, ◌⊎◌}
-use Rattle.archive_shape.specs.ShapeLayout.Bytes.{align_up}
-use Rattle.archive_shape.specs.ShapeLayout.Shape.{Shape, size_of, align_of}
-use Rattle.archive_shape.specs.ShapeLayout.Value.{Values}
-use Rattle.archive_shape.specs.ShapeLayout.Value.Values.{no_values, more_values}
+use Rattle.archive_shape_layout.specs.Bytes.{align_up}
+use Rattle.archive_shape_layout.specs.Shape.{Shape, size_of, align_of}
+use Rattle.archive_shape_layout.specs.Value.{Values}
+use Rattle.archive_shape_layout.specs.Value.Values.{no_values, more_values}
 use Rattle.archive_shape_canonical.specs.Settled.{Fit}
 use Rattle.archive_shape.specs.Bytes.{zeros}
-use Rattle.archive_shape.specs.ShapeWriting.declared.error.Error.{Error}
-use Rattle.archive_shape.specs.ShapeWriting.declared.error.Error.TheVariants.{PositionTooLarge}
+use Rattle.archive_shape_layout.specs.declared.error.Error.{Error}
+use Rattle.archive_shape_layout.specs.declared.error.Error.TheVariants.{PositionTooLarge}
 use Rattle.archive_forms_laws.specs.State.{State, Keys}
 use Rattle.archive_forms_laws.specs.Spelling.{Spelling, state_after}
 

@@ -1,12 +1,12 @@
 -- How results are archived: a tag, and after it the value or the error.
 use Rattle.std.specs.Prelude.{ℕ, max, List, Result, Ok, Err, ⊤}
-use Rattle.archive_shape.specs.ShapeLayout.Bytes.{align_up}
-use Rattle.archive_shape.specs.ShapeLayout.Shape.{Shape, size_of, align_of}
-use Rattle.archive_shape.specs.ShapeLayout.Shape.Shape.{result}
-use Rattle.archive_shape.specs.ShapeLayout.Value.{Value}
+use Rattle.archive_shape_layout.specs.Bytes.{align_up}
+use Rattle.archive_shape_layout.specs.Shape.{Shape, size_of, align_of}
+use Rattle.archive_shape_layout.specs.Shape.Shape.{result}
+use Rattle.archive_shape_layout.specs.Value.{Value}
 use Rattle.archive_shape_canonical.specs.Settled.{Fit}
 use Rattle.archive_shape.specs.Bytes.{zeros}
-use Rattle.archive_shape.specs.ShapeWriting.declared.error.Error.{Error}
+use Rattle.archive_shape_layout.specs.declared.error.Error.{Error}
 use Rattle.archive_forms_laws.specs.State.{State, Met, Keys}
 use Rattle.archive_forms_laws.specs.Spelling.{Spelling}
 use Rattle.archive_forms_laws.specs.Payloads.{payload_spelling}

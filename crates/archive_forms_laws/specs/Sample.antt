@@ -1,11 +1,11 @@
 -- Samples: lists of shared numbers, lists of boxes that may be absent, pairs, and texts.
 use Rattle.std.specs.Prelude.{ℕ, false, List, [], ◌∷◌, Option, Some, None}
 use Rattle.std.specs.Int.{Width, w8, w32, w64, to_le_bytes}
-use Rattle.archive_shape.specs.ShapeLayout.Shape.{Shape}
-use Rattle.archive_shape.specs.ShapeLayout.Shape.Shape.{number, shared, vector, box, option, tuple}
-use Rattle.archive_shape.specs.ShapeLayout.Shape.Shapes.{no_shapes, more_shapes}
-use Rattle.archive_shape.specs.ShapeLayout.Shape.Pointee.{sized}
-use Rattle.archive_shape.specs.ShapeLayout.Value.Value.{natural}
+use Rattle.archive_shape_layout.specs.Shape.{Shape}
+use Rattle.archive_shape_layout.specs.Shape.Shape.{number, shared, vector, box, option, tuple}
+use Rattle.archive_shape_layout.specs.Shape.Shapes.{no_shapes, more_shapes}
+use Rattle.archive_shape_layout.specs.Shape.Pointee.{sized}
+use Rattle.archive_shape_layout.specs.Value.Value.{natural}
 use Rattle.archive_forms_laws.specs.Spelling.{Spelling}
 use Rattle.archive_forms_laws.specs.Forms.{leaf_spelling, seen_as}
 use Rattle.archive_forms_laws.specs.Pointers.{slice_spelling, box_spelling}

@@ -1,14 +1,16 @@
 -- What calls that write a value ensure, of a serializer that keeps the shared values.
 use Rattle.std.specs.Prelude.{◌≡◌, ℕ, ◌+◌, ◌^◌, ◌≤◌, ◌<◌, ◌⊎◌, ◌==◌, cond, List, [], ◌∷◌, length, IsTrue, Bool, true, false, Option, Some, None, Result, MatchResult}
-use Rattle.archive_shape.specs.ShapeLayout.Shape.{Shape, size_of}
-use Rattle.archive_shape.specs.ShapeLayout.Holds.{Visit}
-use Rattle.archive_shape.specs.ShapeLayout.Edit.{Spares}
+use denote.Ref.{MutBor}
+use Rattle.archive_shape_layout.specs.Shape.{Shape, size_of}
+use Rattle.archive_shape_layout.specs.Holds.{Visit}
+use Rattle.archive_shape_layout.specs.Edit.{Spares}
 use Rattle.archive_shape.specs.Bytes.{HasBytes, zeros, overwrite}
-use Rattle.archive_shape.specs.ShapeWriting.Writing.{WriterMembers, Cut, Written, Failed}
-use Rattle.archive_shape.specs.ShapeWriting.declared.error.Error.{Error}
-use Rattle.archive_shape.specs.ShapeWriting.declared.error.Error.TheVariants.{OutOfMemory}
-use Rattle.archive_shape.specs.ShapeWriting.Progress.{Progress}
-use Rattle.archive_shape.specs.ShapeWriting.Progress.Progress.{unmet, begun, ended}
+use Rattle.archive_shape.specs.declared.references.place.Place.{Place}
+use Rattle.archive_shape_layout.specs.Writing.{WriterMembers, Cut, Written, Failed}
+use Rattle.archive_shape_layout.specs.declared.error.Error.{Error}
+use Rattle.archive_shape_layout.specs.declared.error.Error.TheVariants.{OutOfMemory}
+use Rattle.archive_shape_layout.specs.Progress.{Progress}
+use Rattle.archive_shape_layout.specs.Progress.Progress.{unmet, begun, ended}
 use Rattle.archive_forms_laws.specs.State.{State, visit_of_key}
 use Rattle.archive_forms_laws.specs.Spelling.{Spelling, state_after}
 
@@ -104,3 +106,10 @@ module _ {A R : Type 0} (w : Spelling A R) where
     pub stands : pos + size_of s < 2 ^ 64
     pub blank : HasBytes bytes start (zeros (size_of s))
     pub made : (st : State) × (r ≡ w.resolver x st)
+
+  -- both of a call that takes the place of the value, which it has as it is passed, and whose bytes it has at the end
+  abbrev pub CanResolveAt : {T : Type 0} → Shape → A → R → Place T → Type 0
+  CanResolveAt s x r out = CanResolve s x r out.out.now out.start out.pos
+
+  abbrev pub ResolvesAt : {T E : Type 0} → Shape → A → R → Place T → MutBor (List ℕ) × E → Result (Unit {0}) Error → Type 0
+  ResolvesAt s x r out end result = Resolves s x r out.pos out.start out.out.now end.0.now result

@@ -1,14 +1,14 @@
 -- How a pointer to a shared value is archived: the value is written at the first pointer with its key, and later ones
 -- lead to the same position.
 use Rattle.std.specs.Prelude.{◌≡◌, ℕ, ◌+◌, ◌==◌, cond, List, [], ◌∷◌, ◌++◌, length, Option, Some, None, ⊤, ◌⊎◌}
-use Rattle.archive_shape.specs.ShapeLayout.Shape.{Shape, Pointee}
-use Rattle.archive_shape.specs.ShapeLayout.Shape.Pointee.{sized, slice, str}
-use Rattle.archive_shape.specs.ShapeLayout.Value.{Value}
-use Rattle.archive_shape.specs.ShapeLayout.Value.Value.{counted}
-use Rattle.archive_shape.specs.ShapeLayout.Holds.{Visit}
+use Rattle.archive_shape_layout.specs.Shape.{Shape, Pointee}
+use Rattle.archive_shape_layout.specs.Shape.Pointee.{sized, slice, str}
+use Rattle.archive_shape_layout.specs.Value.{Value}
+use Rattle.archive_shape_layout.specs.Value.Value.{counted}
+use Rattle.archive_shape_layout.specs.Holds.{Visit}
 use Rattle.archive_shape.specs.Bytes.{zeros}
-use Rattle.archive_shape.specs.ShapeWriting.declared.error.Error.{Error}
-use Rattle.archive_shape.specs.ShapeWriting.declared.error.Error.TheVariants.{CyclicSharedPointer, AlreadyFinished}
+use Rattle.archive_shape_layout.specs.declared.error.Error.{Error}
+use Rattle.archive_shape_layout.specs.declared.error.Error.TheVariants.{CyclicSharedPointer, AlreadyFinished}
 use Rattle.archive_forms_laws.specs.State.{State, Met, visit_of_key, with_begun, IsNoneOf, IsOneOf}
 use Rattle.archive_forms_laws.specs.Spelling.{Spelling}
 use Rattle.archive_forms_laws.specs.Pointers.{box_spelling, slice_spelling}

@@ -1,8 +1,8 @@
 -- How a value is archived, as functions of the value, of its position and of the state in which it is written.
 use Rattle.std.specs.Prelude.{ℕ, List, length}
-use Rattle.archive_shape.specs.ShapeLayout.Value.{Value}
+use Rattle.archive_shape_layout.specs.Value.{Value}
 use Rattle.archive_shape_canonical.specs.Settled.{Fit}
-use Rattle.archive_shape.specs.ShapeWriting.declared.error.Error.{Error}
+use Rattle.archive_shape_layout.specs.declared.error.Error.{Error}
 use Rattle.archive_forms_laws.specs.State.{State, Met, Keys, advanced}
 
 -- A value of type A. Its data is what its pointers lead to, and is written first, from a state on. A resolver, of type

@@ -1,10 +1,10 @@
 -- The laws of what is written, as statements.
 use Rattle.std.specs.Prelude.{◌≡◌, ℕ, List, [], ◌∷◌, Option, codes, ⊤}
-use Rattle.archive_shape.specs.ShapeLayout.Shape.{Shape}
-use Rattle.archive_shape.specs.ShapeLayout.Shape.Shape.{text}
-use Rattle.archive_shape.specs.ShapeLayout.Value.{Value}
-use Rattle.archive_shape.specs.ShapeLayout.Content.{Names}
-use Rattle.archive_shape.specs.ShapeLayout.Numbers.{IsLeafShape}
+use Rattle.archive_shape_layout.specs.Shape.{Shape}
+use Rattle.archive_shape_layout.specs.Shape.Shape.{text}
+use Rattle.archive_shape_layout.specs.Value.{Value}
+use Rattle.archive_shape_layout.specs.Content.{Names}
+use Rattle.archive_shape_layout.specs.Numbers.{IsLeafShape}
 use Rattle.archive_shape_canonical.specs.Settled.{Fit}
 use Rattle.archive_shape_canonical.specs.Sharing.{erased}
 use Rattle.archive_forms_laws.specs.State.{Keys, AreOneToOne, initial}

@@ -1,9 +1,9 @@
 -- The state of an archive that is being written: the position of the next byte, the shared values that were written,
 -- and the keys of those that are being written.
 use Rattle.std.specs.Prelude.{◌≡◌, ℕ, ◌+◌, ◌≤◌, ◌<◌, ◌==◌, cond, List, [], ◌∷◌, Option, Some, None, ⊤, ◌⊎◌}
-use Rattle.archive_shape.specs.ShapeLayout.Shape.{Pointee}
-use Rattle.archive_shape.specs.ShapeLayout.Value.{Value}
-use Rattle.archive_shape.specs.ShapeLayout.Holds.{Visit, OpenShared}
+use Rattle.archive_shape_layout.specs.Shape.{Pointee}
+use Rattle.archive_shape_layout.specs.Value.{Value}
+use Rattle.archive_shape_layout.specs.Holds.{Visit, OpenShared}
 use Rattle.archive_shape_canonical.specs.Sharing.{erased}
 
 -- a shared value that was written: its key, and how the layout has it

@@ -1,9 +1,9 @@
 -- How texts are archived: inline, or as bytes that a length and an offset lead to; and pointers to texts.
 use Rattle.std.specs.Prelude.{◌≡◌, ℕ, ◌+◌, ◌-◌, ◌*◌, ◌/◌, ◌%◌, ◌^◌, ◌<◌, ◌≤◌, nat_le, Bool, true, false, List, [], ◌++◌, length, replicate, IsUtf8, ◌⊎◌, ⊤}
 use Rattle.std.specs.Int.{w32, to_le_bytes}
-use Rattle.archive_shape.specs.ShapeLayout.Value.Value.{string}
-use Rattle.archive_shape.specs.ShapeWriting.declared.error.Error.{Error}
-use Rattle.archive_shape.specs.ShapeWriting.declared.error.Error.TheVariants.{IsizeOverflow, LengthTooLarge, PositionTooLarge, StringTooLong}
+use Rattle.archive_shape_layout.specs.Value.Value.{string}
+use Rattle.archive_shape_layout.specs.declared.error.Error.{Error}
+use Rattle.archive_shape_layout.specs.declared.error.Error.TheVariants.{IsizeOverflow, LengthTooLarge, PositionTooLarge, StringTooLong}
 use Rattle.archive_forms_laws.specs.Spelling.{Spelling}
 use Rattle.archive_shape.specs.Offsets.{FitsOffset, offset_bytes}
 

@@ -1,8 +1,8 @@
 -- What a value is seen as where it is compared. A value of another form is seen as 0, as no parts, or as its own part.
 use Rattle.std.specs.Prelude.{ℕ, zero, suc, ℤ, pos, Bool, false, List, [], ◌∷◌, Option, Some, None, Result, Ok, Err}
-use Rattle.archive_shape.specs.ShapeLayout.Value.{Value, Values}
-use Rattle.archive_shape.specs.ShapeLayout.Value.Value.{natural, integer, boolean, string, group, chosen}
-use Rattle.archive_shape.specs.ShapeLayout.Value.Values.{no_values, more_values}
+use Rattle.archive_shape_layout.specs.Value.{Value, Values}
+use Rattle.archive_shape_layout.specs.Value.Value.{natural, integer, boolean, string, group, chosen}
+use Rattle.archive_shape_layout.specs.Value.Values.{no_values, more_values}
 
 -- the number of an unsigned type, or the char's code
 abbrev pub natural_of : Value → ℕ

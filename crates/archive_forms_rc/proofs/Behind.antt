@@ -19,7 +19,7 @@ use Rattle.archive_shape.proofs.ByContent.{InPlain, in_plain}
 use Rattle.archive_shape.proofs.ByContent.InPlain.{plain_parts, plain_text, plain_total}
 use Rattle.archive_shape.proofs.Inverted.{IsKnown}
 use Rattle.archive_shape.proofs.Questions.{shape_answered}
-use Rattle.archive_shape_writing.specs.declared.error.Error.{Error}
+use Rattle.archive_shape_layout.specs.declared.error.Error.{Error}
 use Rattle.archive_forms_laws.proofs.TextContent.{followed}
 use Rattle.archive_forms_values.proofs.Inside.{one_held}
 

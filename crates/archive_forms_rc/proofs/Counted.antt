@@ -16,8 +16,8 @@ use Rattle.archive_shape.specs.PartFault.{PartFault, entry_at}
 use Rattle.archive_shape.specs.PartFault.PartFault.{fault_again, fault_first}
 use Rattle.archive_shape.specs.Kept.{Kept, Records, range_of, seen_with, started_again, with_entry, FinishesShared}
 use Rattle.archive_shape.specs.Checks.{Checks, Checked}
-use Rattle.archive_shape_writing.specs.declared.error.Error.{Error}
-use Rattle.archive_shape_writing.specs.declared.error.Error.TheVariants.{OutOfMemory}
+use Rattle.archive_shape_layout.specs.declared.error.Error.{Error}
+use Rattle.archive_shape_layout.specs.declared.error.Error.TheVariants.{OutOfMemory}
 use Rattle.archive_shape.proofs.Questions.{shape_answered}
 use Rattle.archive_shape.proofs.Inverted.{IsKnown}
 use Rattle.archive_forms_laws.proofs.TextContent.{followed}

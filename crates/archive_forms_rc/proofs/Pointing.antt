@@ -5,7 +5,7 @@ use Rattle.archive_shape_layout.specs.Bytes.{align_up}
 use Rattle.archive_shape_layout.specs.Shape.{Pointee, size_of}
 use Rattle.archive_shape_layout.specs.Shape.Shape.{shared, weak, option}
 use Rattle.archive_shape_layout.specs.Shape.Pointee.{sized, slice, str}
-use Rattle.archive_shape_writing.specs.declared.error.Error.{Error}
+use Rattle.archive_shape_layout.specs.declared.error.Error.{Error}
 use Rattle.archive_forms_laws.specs.Spelling.{Spelling}
 use Rattle.archive_forms_laws.specs.Options.{option_spelling}
 use Rattle.archive_forms_laws.specs.Serializing.{CanResolve, Resolves}

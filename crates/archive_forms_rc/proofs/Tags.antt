@@ -13,7 +13,7 @@ use Rattle.archive_shape_layout.specs.Content.Content.{plain}
 use Rattle.archive_shape_layout.proofs.Unique.{by_plain}
 use Rattle.archive_shape.specs.Kept.{Kept}
 use Rattle.archive_shape.specs.Checks.{Checks}
-use Rattle.archive_shape_writing.specs.declared.error.Error.{Error}
+use Rattle.archive_shape_layout.specs.declared.error.Error.{Error}
 use Rattle.archive_shape.proofs.Below.{below_checked}
 use Rattle.archive_shape.proofs.Inverted.{held_is_known}
 use Rattle.archive_shape.proofs.Leaves.{alone_checked}

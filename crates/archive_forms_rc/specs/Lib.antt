@@ -1,6 +1,5 @@
 pub mod Compared
 pub mod Counted
-pub mod FormsWriting
 pub mod Pointers
 pub mod Visits
 pub mod WeakPointers

@@ -3,7 +3,7 @@ use Rattle.std.specs.Prelude.{◌≡◌, ℕ, Bool, true, false, Some, None}
 use Rattle.archive_shape_layout.specs.Shape.{Pointee}
 use Rattle.archive_shape.specs.PartFault.{Entry, Clash}
 use Rattle.archive_shape.specs.Kept.{Kept, with_entry}
-use Rattle.archive_shape_writing.specs.declared.error.Error.{Error}
+use Rattle.archive_shape_layout.specs.declared.error.Error.{Error}
 
 -- the first visit of a shared position is recorded; a later one finds the same shape and length, and changes nothing.
 -- Its check has ended where the flavor forbids cycles

@@ -2,14 +2,14 @@
 ghost use Rattle.std.specs.Prelude.{◌≡◌, ◌+◌, ◌^◌, ◌<◌, ◌≤◌, ◌++◌, ◌⊎◌, length, MatchResult};
 ghost use Rattle.std.specs.Int.{w32, to_le_bytes};
 ghost use Rattle.archive_shape.specs.Bytes.{overwrite};
-ghost use Rattle.archive_shape_writing.specs.declared.error.Error.TheVariants.{IsizeOverflow, LengthTooLarge};
+ghost use Rattle.archive_shape_layout.specs.declared.error.Error.TheVariants.{IsizeOverflow, LengthTooLarge};
 ghost use Rattle.archive_shape.specs.Offsets.{FitsOffset, offset_bytes};
 ghost use Rattle.archive_forms_rc.specs.WeakResolvers.{weak_resolver, counted_resolver};
 
 use crate::{ArchivedRc, ArchivedRcSlice, ArchivedRcStr};
 use archive_forms_values::{ArchivedBox, ArchivedBoxedSlice, ArchivedBoxedStr, BoxResolver};
 use archive_shape::{Place, Portable};
-use archive_shape_writing::Error;
+use archive_shape_layout::Error;
 
 /// The position of what a counted pointer will lead to.
 #[derive(Clone, Copy, Debug, PartialEq, Eq)]

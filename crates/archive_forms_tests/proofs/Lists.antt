@@ -4,10 +4,10 @@ use Rattle.std.proofs.Common.{◌≡◌, ℕ, List as Listed, Option, Some, None
 use Rattle.std.specs.Prelude.{Box, MatchResult}
 use Rattle.std.specs.Global.{Global}
 use Rattle.archive_shape.specs.Bytes.{overwrite}
-use Rattle.archive_forms_laws.specs.ShapeCanonical.Sharing.{erased}
-use Rattle.archive_shape_writing.specs.Writing.{WriterMembers}
-use Rattle.archive_shape_writing.specs.declared.error.Error.{Error}
-use Rattle.archive_shape_writing.specs.declared.error.Error.TheVariants.{IsizeOverflow}
+use Rattle.archive_shape_canonical.specs.Sharing.{erased}
+use Rattle.archive_shape_layout.specs.Writing.{WriterMembers}
+use Rattle.archive_shape_layout.specs.declared.error.Error.{Error}
+use Rattle.archive_shape_layout.specs.declared.error.Error.TheVariants.{IsizeOverflow}
 use Rattle.archive_shape_layout.specs.Shape.Shape.{box}
 use Rattle.archive_shape_layout.specs.Shape.Pointee.{sized}
 use Rattle.archive_shape_layout.specs.Value.Value.{chosen}

@@ -15,8 +15,8 @@ use Rattle.archive_shape.specs.Questions.FirstUnanswered.{unanswered_here, unans
 use Rattle.archive_shape.specs.PartFault.PartFault.{fault_unanswered, fault_text}
 use Rattle.archive_shape.specs.Kept.{Kept}
 use Rattle.archive_shape.specs.Checks.{Checks}
-use Rattle.archive_shape_writing.specs.declared.error.Error.{Error}
-use Rattle.archive_shape_writing.specs.declared.error.Error.TheVariants.{CheckStringRepr, InvalidSubtreePointer, InvalidUtf8}
+use Rattle.archive_shape_layout.specs.declared.error.Error.{Error}
+use Rattle.archive_shape_layout.specs.declared.error.Error.TheVariants.{CheckStringRepr, InvalidSubtreePointer, InvalidUtf8}
 use Rattle.archive_shape.proofs.Leaves.{alone_checked}
 use Rattle.archive_forms_laws.proofs.TextContent.{first_is, first_is_not, len_is, target_is, is_long, inline_is, far_is}
 use Rattle.archive_shape.proofs.Below.{below_checked}

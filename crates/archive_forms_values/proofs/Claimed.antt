@@ -23,8 +23,8 @@ use Rattle.archive_shape.specs.PartFault.PartFault.{fault_unanswered, fault_clai
 use Rattle.archive_shape.specs.Kept.{Kept, Records, range_of, pushed, popped, started_again, Advances, IsWithin}
 use Rattle.archive_shape.specs.Checks.{Checks, Checked, CheckedAll}
 use Rattle.archive_shape.specs.declared.checking.context.PushedRange.{PushedRange}
-use Rattle.archive_shape_writing.specs.declared.error.Error.{Error}
-use Rattle.archive_shape_writing.specs.declared.error.Error.TheVariants.{Unaligned, InvalidSubtreePointer, OutOfMemory}
+use Rattle.archive_shape_layout.specs.declared.error.Error.{Error}
+use Rattle.archive_shape_layout.specs.declared.error.Error.TheVariants.{Unaligned, InvalidSubtreePointer, OutOfMemory}
 use Rattle.archive_shape.proofs.Claims.{one_error, place_unanswered}
 use Rattle.archive_shape.proofs.Ranges.{NestsBelow-append}
 use Rattle.archive_shape.specs.Steps.{Narrower}

@@ -16,8 +16,8 @@ use Rattle.archive_shape.specs.PartFault.PartFault.{fault_claimed}
 use Rattle.archive_shape.specs.Kept.{Kept, range_of, pushed, popped, started_again, Advances}
 use Rattle.archive_shape.specs.Checks.{Checked, CheckedAll}
 use Rattle.archive_shape.specs.declared.checking.context.PushedRange.{PushedRange}
-use Rattle.archive_shape_writing.specs.declared.error.Error.{Error}
-use Rattle.archive_shape_writing.specs.declared.error.Error.TheVariants.{OutOfMemory, ExceededMaximumSubtreeDepth}
+use Rattle.archive_shape_layout.specs.declared.error.Error.{Error}
+use Rattle.archive_shape_layout.specs.declared.error.Error.TheVariants.{OutOfMemory, ExceededMaximumSubtreeDepth}
 use Rattle.archive_shape.proofs.Claims.{depth_unanswered}
 use Rattle.archive_shape.proofs.Ranges.{NestsBelow-append}
 use Rattle.archive_forms_values.proofs.Claimed.{Pushes, pushes, answered, popped_behind}

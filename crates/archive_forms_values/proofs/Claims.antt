@@ -16,8 +16,8 @@ use Rattle.archive_shape.specs.Questions.{AreAnswered, FirstUnanswered, claim, p
 use Rattle.archive_shape.specs.PartFault.PartFault.{fault_unanswered, fault_text_behind}
 use Rattle.archive_shape.specs.Kept.{Kept, range_of, started_again}
 use Rattle.archive_shape.specs.Checks.{Checks}
-use Rattle.archive_shape_writing.specs.declared.error.Error.{Error}
-use Rattle.archive_shape_writing.specs.declared.error.Error.TheVariants.{OutOfMemory, InvalidUtf8}
+use Rattle.archive_shape_layout.specs.declared.error.Error.{Error}
+use Rattle.archive_shape_layout.specs.declared.error.Error.TheVariants.{OutOfMemory, InvalidUtf8}
 
 module _ (names : Names) (bytes : List ℕ) (start len : ℕ) where
   behind_is : content_of names bytes (behind start str len) ≡ claimed (pointee_span start str len) (written (window bytes start len)) []

@@ -1,6 +1,5 @@
 -- Fields that are checked one after another.
-use Rattle.std.proofs.Common.{◌≡◌, ℕ, ◌+◌, ◌-◌, ◌%◌, ◌≤◌, ◌<◌, ◌^◌, min, List, ◌∷◌, Ok, Err, Result, refl, sym, ap, subst, ◌∙◌, arith}
-use Rattle.std.proofs.Math.Nat.{mod_self, zero-mod}
+use Rattle.std.proofs.Common.{◌≡◌, ℕ, ◌+◌, ◌-◌, ◌≤◌, ◌<◌, ◌^◌, min, List, ◌∷◌, Ok, Err, Result, refl, sym, ap, subst, ◌∙◌, arith}
 use Rattle.archive_shape_layout.specs.Bytes.{align_up}
 use Rattle.archive_shape_layout.specs.Shape.{Shape, Shapes, align_of, size_of, fields_end}
 use Rattle.archive_shape_layout.specs.Shape.Shape.{tuple}
@@ -11,7 +10,7 @@ use Rattle.archive_shape_layout.specs.Holds.{Visit, OpenShared}
 use Rattle.archive_shape_layout.proofs.Framed.{le_align_up, le_fields_end}
 use Rattle.archive_shape.specs.Kept.{Kept, Records, Advances}
 use Rattle.archive_shape.specs.Checks.{Checks, ChecksAll, Moves}
-use Rattle.archive_shape_writing.specs.declared.error.Error.{Error}
+use Rattle.archive_shape_layout.specs.declared.error.Error.{Error}
 use Rattle.archive_shape.proofs.Wholes.{whole_checked}
 use Rattle.archive_shape.proofs.Ordered.{Left, all_left, one_less, first_fault, none_left, checked_records, advances_then}
 use Rattle.archive_shape_layout.proofs.PointerSizes.{first_multiple}

@@ -1,5 +1,4 @@
 pub mod Accepted
-pub mod ArchiveShape
 pub mod Arrays
 pub mod Checked
 pub mod Chosen
@@ -7,7 +6,6 @@ pub mod Claimed
 pub mod Claiming
 pub mod Claims
 pub mod Contents
-pub mod FormsLaws
 pub mod Held
 pub mod InOrder
 pub mod Inside
@@ -21,8 +19,6 @@ pub mod Placed
 pub mod Pointed
 pub mod Rooted
 pub mod SameContent
-pub mod ShapeCanonical
-pub mod ShapeLayout
 pub mod Slices
 pub mod Stands
 pub mod Tagged

@@ -1,8 +1,7 @@
 -- The value of a root.
-use Rattle.std.proofs.Common.{◌≡◌, ℕ, List, [], ◌∷◌, Some, subst, arith}
+use Rattle.std.proofs.Common.{◌≡◌, ℕ, List, [], Some, subst, arith}
 use Rattle.archive_shape_layout.specs.Shape.{Shape}
 use Rattle.archive_shape_layout.specs.Value.{Value}
-use Rattle.archive_shape_layout.specs.Value.Values.{no_values, more_values}
 use Rattle.archive_shape_layout.specs.Content.{Names, made}
 use Rattle.archive_shape_layout.specs.Content.Part.{at}
 use Rattle.archive_shape_layout.specs.Content.Label.{same}

@@ -13,7 +13,7 @@ use Rattle.archive_shape.specs.PartFault.{PartFault}
 use Rattle.archive_shape.specs.PartFault.PartFault.{fault_unanswered, fault_plain, fault_claimed, fault_text, fault_text_behind, fault_total, fault_table, fault_entries, fault_again, fault_first}
 use Rattle.archive_shape.specs.Kept.{Kept}
 use Rattle.archive_shape.specs.Checks.{Checks}
-use Rattle.archive_shape_writing.specs.declared.error.Error.{Error}
+use Rattle.archive_shape_layout.specs.declared.error.Error.{Error}
 
 module _ (names : Names) (bytes : List ℕ) (p r : Part) (same : content_of names bytes p ≡ content_of names bytes r) where
   pub same_holds : {level : ℕ} {inside : List OpenShared} {v : Value} {regions : List Region} {before after : List Visit}

@@ -8,7 +8,7 @@ use Rattle.archive_shape_layout.specs.Content.{Names, content_of, shape_content}
 use Rattle.archive_shape_layout.specs.Content.Part.{at}
 use Rattle.archive_shape.specs.Kept.{Kept}
 use Rattle.archive_shape.specs.Checks.{Checks}
-use Rattle.archive_shape_writing.specs.declared.error.Error.{Error}
+use Rattle.archive_shape_layout.specs.declared.error.Error.{Error}
 use Rattle.archive_shape.specs.Key.{HeldAt}
 use Rattle.archive_forms_values.specs.Parts.{HasValue, IsVecAt}
 use Rattle.archive_forms_values.specs.Boxes.{IsBoxedSliceAt}

@@ -19,8 +19,8 @@ use Rattle.archive_shape.specs.Questions.FirstUnanswered.{unanswered_here}
 use Rattle.archive_shape.specs.PartFault.PartFault.{fault_unanswered}
 use Rattle.archive_shape.specs.Kept.{Kept, range_of}
 use Rattle.archive_shape.specs.Checks.{Checks}
-use Rattle.archive_shape_writing.specs.declared.error.Error.{Error}
-use Rattle.archive_shape_writing.specs.declared.error.Error.TheVariants.{InvalidTag}
+use Rattle.archive_shape_layout.specs.declared.error.Error.{Error}
+use Rattle.archive_shape_layout.specs.declared.error.Error.TheVariants.{InvalidTag}
 use Rattle.archive_shape.proofs.Leaves.{alone_checked}
 use Rattle.archive_forms_laws.proofs.Sizes.{behind_tag}
 use Rattle.archive_shape.proofs.Below.{below_checked}

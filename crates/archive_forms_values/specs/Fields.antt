@@ -17,6 +17,16 @@ use Rattle.archive_shape.specs.Key.{HeldAt}
 abbrev pub field_position : Shape → Shapes → Shape → ℕ → ℕ
 field_position first between s pos = pos + align_up (fields_end between (size_of first)) (align_of s)
 
+-- that of the second field, the third and the fourth, by the shapes of the fields up to it
+abbrev pub second_position : (s t : Shape) → ℕ → ℕ
+second_position s t pos = field_position s no_shapes t pos
+
+abbrev pub third_position : (s t u : Shape) → ℕ → ℕ
+third_position s t u pos = field_position s (more_shapes t no_shapes) u pos
+
+abbrev pub fourth_position : (s t u v : Shape) → ℕ → ℕ
+fourth_position s t u v pos = field_position s (more_shapes t (more_shapes u no_shapes)) v pos
+
 -- ---- their values
 
 -- a field: its shape, and the lists of names that its type is read under

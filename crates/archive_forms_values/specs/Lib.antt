@@ -1,13 +1,9 @@
-pub mod ArchiveShape
 pub mod Arrays
 pub mod Boxes
+pub mod Calls
 pub mod Claims
 pub mod Fields
-pub mod FormsLaws
 pub mod Loans
 pub mod Parts
 pub mod Repr
-pub mod ShapeCanonical
-pub mod ShapeLayout
-pub mod ShapeWriting
 pub mod Tuples

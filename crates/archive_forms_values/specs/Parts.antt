@@ -1,5 +1,5 @@
 -- The values that archived forms have in the layout: the positions of their parts, and the values of these.
-use Rattle.std.specs.Prelude.{◌≡◌, ℕ, ◌+◌, ◌*◌, ◌<◌, ◌≤◌, max, List, length, Some}
+use Rattle.std.specs.Prelude.{◌≡◌, ℕ, ◌+◌, ◌-◌, ◌*◌, ◌^◌, ◌<◌, ◌≤◌, max, min, List, length, Some}
 use Rattle.archive_shape_layout.specs.Bytes.{align_up, word_at, target_from}
 use Rattle.archive_shape_layout.specs.Shape.{Shape, align_of, size_of}
 use Rattle.archive_shape_layout.specs.Shape.Shape.{option, result, box, vector}
@@ -47,6 +47,11 @@ module _ (s : Shape) (knows : Names → Type 0) (bytes : List ℕ) (pos : ℕ) w
 -- the position of the value or the error of a result at a position
 abbrev pub outcome_position : Shape → Shape → ℕ → ℕ
 outcome_position s t pos = pos + align_up 1 (max (align_of s) (align_of t))
+
+-- the size of a result by the sizes and the alignments of its value and its error, at most 2^64 - 1
+abbrev pub outcome_size : (value_size value_align error_size error_align : ℕ) → ℕ
+outcome_size value_size value_align error_size error_align =
+    min (align_up (max value_align error_align + max value_size error_size) (max value_align error_align)) (2 ^ 64 - 1)
 
 -- a list of names is known to both
 abbrev pub both : (Names → Type 0) → (Names → Type 0) → Names → Type 0

@@ -1,7 +1,7 @@
 //! Loans of values of a buffer with only their own bytes, to callers and to calls of closures.
-ghost use denote.Ref.{MutBor};
 ghost use Rattle.std.specs.Prelude.{◌+◌, ◌≤◌, length};
-ghost use Rattle.archive_forms_values.specs.Loans.{IsOwn, IsLent, LeavesOwn, LeavesLent};
+ghost use Rattle.archive_forms_values.specs.Loans.{IsOwn, IsLent};
+ghost use Rattle.archive_forms_values.specs.Calls.Lending.{MayVisitOwn, VisitsOwn, MayVisitEntry, VisitsEntry};
 
 use archive_shape::{OwnSeal, Portable, Ref};
 
@@ -37,9 +37,8 @@ pub fn visit_own<V: Portable, R, F: FnMut(&mut OwnSeal<'_, V>) -> R>(
     visit: &mut F,
 ) -> R
     requires within { at + V.SIZE ≤ length bytes.old }
-    requires callable { (value : MutBor (OwnSeal V)) → IsOwn V.SIZE bytes.old at value.now
-        → F.pre visit.old value }
-    ensures { LeavesOwn V.SIZE bytes.old at (λ value left. F.step visit.old value result left visit.new) bytes.new }
+    requires callable { MayVisitOwn V.SIZE bytes.old at (F.pre visit.old) }
+    ensures { VisitsOwn V.SIZE bytes.old at (F.step visit.old) result visit.new bytes.new }
 {
     let size = V::SIZE;
     let (_before, rest) = bytes.split_at_mut(at);
@@ -57,9 +56,8 @@ pub fn visit_entry<K, V: Portable, R, F: FnMut(Ref<'_, K>, &mut OwnSeal<'_, V>) 
     visit: &mut F,
 ) -> R
     requires within { value + V.SIZE ≤ length bytes.old }
-    requires callable { (lent : Ref K) (seal : MutBor (OwnSeal V))
-        → IsLent V.SIZE bytes.old key value lent seal.now → F.pre visit.old lent seal }
-    ensures { LeavesLent V.SIZE bytes.old key value (λ lent seal left. F.step visit.old lent seal result left visit.new) bytes.new }
+    requires callable { MayVisitEntry V.SIZE bytes.old key value (F.pre visit.old) }
+    ensures { VisitsEntry V.SIZE bytes.old key value (F.step visit.old) result visit.new bytes.new }
 {
     let size = V::SIZE;
     let (before, rest) = bytes.split_at_mut(value);

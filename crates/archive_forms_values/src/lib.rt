@@ -20,8 +20,9 @@ pub use checking::{
 pub use lending::{lend_entry, lend_own, visit_entry, visit_own};
 pub use links::emplace_link;
 pub use reading::{
-    ArchivedBox, ArchivedOption, ArchivedResult, ArchivedVec, BoxResolver, Iter, SliceRef,
-    SliceSeal, VecResolver, array_element, array_element_seal, array_slice, native_of, target_of,
+    ArchivedBox, ArchivedOption, ArchivedResult, ArchivedVec, BoxResolver, Iter, SOME_TAG,
+    SliceRef, SliceSeal, VecResolver, array_element, array_element_seal, array_slice, native_of,
+    target_of,
 };
 pub use text::{
     ArchivedString, ArchivedStringRepr, StringResolver, check_behind, held_is_text, one_text,

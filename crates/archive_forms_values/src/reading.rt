@@ -15,7 +15,7 @@ pub use array::{array_element, array_element_seal, array_slice};
 pub use boxed::ArchivedBox;
 pub use iter::Iter;
 pub use leaf::native_of;
-pub use option::ArchivedOption;
+pub use option::{ArchivedOption, SOME_TAG};
 pub use resolving::{BoxResolver, VecResolver};
 pub use result::ArchivedResult;
 pub use slice::{SliceRef, SliceSeal};

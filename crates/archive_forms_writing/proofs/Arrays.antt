@@ -1,14 +1,14 @@
 -- The elements of an array: their resolvers, and their own bytes, which are adjacent.
 use Rattle.std.proofs.Common.{◌≡◌, ℕ, zero, suc, ◌+◌, ◌*◌, ◌≤◌, ◌<◌, ◌-◌, ◌^◌, min, set, List, [], ◌∷◌, ◌++◌, length, take, drop, replicate, arith, le_refl, length-append, append_assoc, append-nil, ap, sym, refl, subst, ◌∙◌, inl, inr, mul-le-mul_right}
 use Rattle.std.specs.Prelude.{⊤}
-use Rattle.archive_shape.specs.ShapeLayout.Shape.{Shape, size_of}
-use Rattle.archive_shape.specs.ShapeLayout.Edit.{Spares}
+use Rattle.archive_shape_layout.specs.Shape.{Shape, size_of}
+use Rattle.archive_shape_layout.specs.Edit.{Spares}
 use Rattle.archive_shape.specs.Bytes.{HasBytes, zeros, overwrite}
-use Rattle.archive_shape_writing.specs.declared.error.Error.{Error}
+use Rattle.archive_shape_layout.specs.declared.error.Error.{Error}
 use Rattle.archive_shape.proofs.Spared.{spares_within, spares_both, spares_overwritten}
 use Rattle.archive_shape.proofs.Written.{length-overwrite}
-use Rattle.archive_shape_writing.specs.Progress.{Progress}
-use Rattle.archive_forms_laws.specs.ShapeCanonical.FirstFit.{first_fit}
+use Rattle.archive_shape_layout.specs.Progress.{Progress}
+use Rattle.archive_shape_canonical.specs.FirstFit.{first_fit}
 use Rattle.archive_forms_laws.specs.State.{State, advanced, visit_of_key}
 use Rattle.archive_forms_laws.specs.Spelling.{Spelling, state_after}
 use Rattle.archive_forms_laws.specs.Regions.{resolvers, pieces, state_after_all}

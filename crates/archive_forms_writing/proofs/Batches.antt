@@ -3,15 +3,15 @@ use Rattle.std.proofs.Common.{◌≡◌, ℕ, zero, suc, min, zero-mul, one-mul,
 use Rattle.std.proofs.Math.Nat.{mul-le-mul_right}
 use Rattle.std.proofs.Math.Seq.{take-append_seam}
 use Rattle.std.proofs.lemmas.List.{length-take, length-replicate, take-replicate, drop-replicate, drop-drop, drop_at}
-use Rattle.archive_shape.specs.ShapeLayout.Shape.{Shape, size_of}
+use Rattle.archive_shape_layout.specs.Shape.{Shape, size_of}
 use Rattle.archive_shape.specs.Bytes.{HasBytes, zeros, overwrite}
 use Rattle.archive_shape.proofs.Written.{length-overwrite}
 use Rattle.std.specs.Prelude.{Result, Ok, Err, false}
-use Rattle.archive_shape_writing.specs.Progress.Progress.{unmet}
-use Rattle.archive_shape_writing.specs.declared.error.Error.TheVariants.{OutOfMemory, PositionTooLarge}
-use Rattle.archive_shape_writing.specs.Writing.{WriterMembers, Writes}
-use Rattle.archive_shape_writing.specs.declared.error.Error.{Error}
-use Rattle.archive_shape_writing.proofs.Joined.{written_none}
+use Rattle.archive_shape_layout.specs.Progress.Progress.{unmet}
+use Rattle.archive_shape_layout.specs.declared.error.Error.TheVariants.{OutOfMemory, PositionTooLarge}
+use Rattle.archive_shape_layout.specs.Writing.{WriterMembers, Writes}
+use Rattle.archive_shape_layout.specs.declared.error.Error.{Error}
+use Rattle.archive_shape_layout.proofs.Joined.{written_none}
 use Rattle.archive_forms_laws.specs.State.{State}
 use Rattle.archive_forms_laws.specs.Spelling.{Spelling, state_after}
 use Rattle.archive_forms_laws.specs.Serializing.{Lays}

@@ -3,7 +3,7 @@ use Rattle.std.proofs.Common.{◌≡◌, ℕ, zero, suc, ◌+◌, ◌-◌, ◌�
 use Rattle.std.proofs.Math.Seq.{take-append_seam}
 use Rattle.std.proofs.Math.ListN.{drop_of_length-le}
 use Rattle.std.proofs.lemmas.List.{length-take, drop-drop, drop_at, take-append-drop, length-replicate}
-use Rattle.archive_shape.specs.ShapeLayout.Edit.{Spares}
+use Rattle.archive_shape_layout.specs.Edit.{Spares}
 use Rattle.archive_shape.specs.Bytes.{HasBytes, zeros, overwrite}
 use Rattle.archive_shape.proofs.Spared.{spares_within, spares_both, spares_overwritten}
 use Rattle.archive_shape.proofs.Written.{length-overwrite, window_there, window_behind}

@@ -1,10 +1,10 @@
 -- Pieces that calls write, one after another.
 use Rattle.std.proofs.Common.{◌≡◌, ℕ, List, ◌++◌, sym, subst, ◌∙◌, inl, inr, ◌⊎◌, Ok, Err, refl}
 use Rattle.std.specs.Prelude.{Result}
-use Rattle.archive_shape_writing.specs.Writing.{WriterMembers, Written, Failed, Writes}
-use Rattle.archive_shape_writing.specs.declared.error.Error.{Error}
-use Rattle.archive_shape_writing.specs.declared.error.Error.TheVariants.{OutOfMemory}
-use Rattle.archive_shape_writing.proofs.Joined.{cut_none, cut_first, cut_after, written_both, failed_first, failed_after}
+use Rattle.archive_shape_layout.specs.Writing.{WriterMembers, Written, Failed, Writes}
+use Rattle.archive_shape_layout.specs.declared.error.Error.{Error}
+use Rattle.archive_shape_layout.specs.declared.error.Error.TheVariants.{OutOfMemory}
+use Rattle.archive_shape_layout.proofs.Joined.{cut_none, cut_first, cut_after, written_both, failed_first, failed_after}
 use Rattle.archive_forms_laws.specs.Serializing.{Stopped, Lays, of_data}
 
 module _ {W : Type 0} (s : WriterMembers W) where

@@ -1,13 +1,13 @@
 -- The data of an option that is there, and the own bytes of options.
 use Rattle.std.proofs.Common.{◌≡◌, ℕ, ◌+◌, ◌≤◌, ◌<◌, Option, Some, None, Ok, Err, List, length, set, sym, ap, subst, ◌∙◌, refl, arith}
 use Rattle.std.specs.Prelude.{Result, unwrap_or}
-use Rattle.archive_shape.specs.ShapeLayout.Bytes.{align_up}
-use Rattle.archive_shape.specs.ShapeLayout.Shape.{Shape, size_of, align_of}
-use Rattle.archive_shape.specs.ShapeLayout.Shape.Shape.{option}
+use Rattle.archive_shape_layout.specs.Bytes.{align_up}
+use Rattle.archive_shape_layout.specs.Shape.{Shape, size_of, align_of}
+use Rattle.archive_shape_layout.specs.Shape.Shape.{option}
 use Rattle.archive_shape.specs.Bytes.{HasBytes, zeros, overwrite}
 use Rattle.archive_forms_laws.proofs.Sizes.{behind_tag}
-use Rattle.archive_shape_writing.specs.Writing.{WriterMembers}
-use Rattle.archive_shape_writing.specs.declared.error.Error.{Error}
+use Rattle.archive_shape_layout.specs.Writing.{WriterMembers}
+use Rattle.archive_shape_layout.specs.declared.error.Error.{Error}
 use Rattle.archive_forms_laws.specs.State.{State}
 use Rattle.archive_forms_laws.specs.Spelling.{Spelling, state_after}
 use Rattle.archive_forms_laws.specs.Options.{option_spelling, payload_at, tagged_bytes}

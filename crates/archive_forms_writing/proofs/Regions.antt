@@ -2,14 +2,14 @@
 use Rattle.std.proofs.Common.{◌≡◌, ℕ, ◌+◌, ◌-◌, ◌^◌, ◌≤◌, ◌<◌, List, [], ◌∷◌, ◌++◌, refl, sym, ap, subst, ◌∙◌, arith, length, append-nil, append_assoc, inl, inr, Ok, Err, ◌⊎◌}
 use Rattle.std.specs.Prelude.{⊤, Result}
 use Rattle.std.proofs.lemmas.List.{length-replicate}
-use Rattle.archive_shape.specs.ShapeLayout.Bytes.{align_up}
-use Rattle.archive_shape.specs.ShapeLayout.Shape.{Shape, align_of}
-use Rattle.archive_shape.proofs.ShapeLayout.Framed.{le_align_up}
-use Rattle.archive_forms_laws.specs.ShapeCanonical.FirstFit.{first_fit}
+use Rattle.archive_shape_layout.specs.Bytes.{align_up}
+use Rattle.archive_shape_layout.specs.Shape.{Shape, align_of}
+use Rattle.archive_shape_layout.proofs.Framed.{le_align_up}
+use Rattle.archive_shape_canonical.specs.FirstFit.{first_fit}
 use Rattle.archive_shape.specs.Bytes.{zeros}
-use Rattle.archive_shape_writing.specs.Writing.{WriterMembers}
-use Rattle.archive_shape_writing.specs.declared.error.Error.{Error}
-use Rattle.archive_shape_writing.specs.declared.error.Error.TheVariants.{PositionTooLarge}
+use Rattle.archive_shape_layout.specs.Writing.{WriterMembers}
+use Rattle.archive_shape_layout.specs.declared.error.Error.{Error}
+use Rattle.archive_shape_layout.specs.declared.error.Error.TheVariants.{PositionTooLarge}
 use Rattle.archive_forms_laws.specs.State.{State, advanced}
 use Rattle.archive_forms_laws.specs.Spelling.{Spelling, state_after}
 use Rattle.archive_forms_laws.specs.Regions.{state_after_all, pieces, owns, pieces_fit, pieces_refused, placed_fits, placed_refused, owns_fit, owns_refused, region_at, region_piece, region_fits, region_refused}

@@ -1,9 +1,9 @@
 -- Own bytes that are written over all bytes of a piece.
 use Rattle.std.proofs.Common.{◌≡◌, ℕ, List, length, sym, ap, subst, ◌∙◌, Ok, Err}
 use Rattle.std.specs.Prelude.{Result, MatchResult}
-use Rattle.archive_shape.specs.ShapeLayout.Shape.{Shape, size_of}
+use Rattle.archive_shape_layout.specs.Shape.{Shape, size_of}
 use Rattle.archive_shape.specs.Bytes.{overwrite}
-use Rattle.archive_shape_writing.specs.declared.error.Error.{Error}
+use Rattle.archive_shape_layout.specs.declared.error.Error.{Error}
 use Rattle.archive_forms_laws.specs.Spelling.{Spelling}
 use Rattle.archive_forms_laws.specs.Serializing.{Resolves}
 use Rattle.archive_forms_writing.proofs.Joining.{whole_over}

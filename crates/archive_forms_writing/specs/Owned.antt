@@ -2,7 +2,7 @@
 use Rattle.std.specs.Prelude.{ℕ, List, Box, String, Vec}
 use Rattle.std.specs.String.{string_bytes}
 use Rattle.std.specs.Global.{Global}
-use Rattle.archive_shape.specs.ShapeLayout.Shape.{Shape}
+use Rattle.archive_shape_layout.specs.Shape.{Shape}
 use Rattle.archive_forms_laws.specs.Spelling.{Spelling}
 use Rattle.archive_forms_laws.specs.Forms.{seen_as, kept_as}
 use Rattle.archive_forms_laws.specs.Pointers.{slice_spelling, box_spelling}

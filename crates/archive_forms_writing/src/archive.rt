@@ -1,10 +1,10 @@
 //! `Archive` and `Serialize`, the traits of types whose values can be archived, and `ArchiveWith`, the trait of what
 //! archives values of a type.
 ghost use Rattle.std.specs.Prelude.{◌-◌, ◌^◌, ◌<◌};
-ghost use Rattle.archive_forms_laws.specs.ShapeCanonical.Settled.{Fit};
+ghost use Rattle.archive_shape_canonical.specs.Settled.{Fit};
 ghost use Rattle.archive_forms_laws.specs.Spelling.{Spelling};
 ghost use Rattle.archive_forms_laws.specs.Spells.{Spells};
-ghost use Rattle.archive_forms_laws.specs.Serializing.{CanResolve, HasState, Resolves, Serializes};
+ghost use Rattle.archive_forms_laws.specs.Serializing.{HasState, Serializes, CanResolveAt, ResolvesAt};
 
 use archive_shape::{Allocator, Error, Place, Portable, Writer};
 
@@ -21,10 +21,8 @@ pub trait Archive {
 
     /// Writes the own bytes of the value at `out`, where the bytes are zeros. The value's data was written before.
     fn resolve(&self, resolver: Self::Resolver, out: Place<'_, Self::Archived>) -> Result<(), Error>
-        requires { CanResolve spelling Self.Archived.shape self.now resolver out.out.now
-            out.start out.pos }
-        ensures { Resolves spelling Self.Archived.shape self.now resolver out.entry.pos out.entry.start out.entry.out.now
-            out.exit.0.now result };
+        requires { CanResolveAt spelling Self.Archived.shape self.now resolver out }
+        ensures { ResolvesAt spelling Self.Archived.shape self.now resolver out.entry out.exit result };
 
     /// The layout reads what is written as the value, and it is the one archive of the value.
     ghost spells: { (fit : Fit) → Spells fit Self.Archived.shape Self.Archived.knows spelling };
@@ -57,10 +55,8 @@ pub trait ArchiveWith<T> {
         resolver: Self::Resolver,
         out: Place<'_, Self::Archived>,
     ) -> Result<(), Error>
-        requires { CanResolve (spelling self.now) Self.Archived.shape value.now resolver out.out.now
-            out.start out.pos }
-        ensures { Resolves (spelling self.now) Self.Archived.shape value.now resolver out.entry.pos out.entry.start
-            out.entry.out.now out.exit.0.now result };
+        requires { CanResolveAt (spelling self.now) Self.Archived.shape value.now resolver out }
+        ensures { ResolvesAt (spelling self.now) Self.Archived.shape value.now resolver out.entry out.exit result };
 
     /// The layout reads what is written as the value, and it is the one archive of the value.
     ghost spells: { (with : Self) (fit : Fit) → Spells fit Self.Archived.shape Self.Archived.knows (spelling with) };
@@ -83,9 +79,8 @@ impl<T: Archive> ArchiveWith<T> for ByArchive {
         resolver: T::Resolver,
         out: Place<'_, T::Archived>,
     ) -> Result<(), Error>
-        requires { CanResolve T.spelling T.Archived.shape value.now resolver out.out.now out.start out.pos }
-        ensures { Resolves T.spelling T.Archived.shape value.now resolver out.entry.pos out.entry.start
-            out.entry.out.now out.exit.0.now result }
+        requires { CanResolveAt T.spelling T.Archived.shape value.now resolver out }
+        ensures { ResolvesAt T.spelling T.Archived.shape value.now resolver out.entry out.exit result }
     {
         let Place {
             out,

@@ -1,15 +1,16 @@
 //! The archiving of arrays.
-ghost use Rattle.std.specs.Prelude.{◌≡◌, ℕ, ◌+◌, ◌-◌, ◌*◌, ◌^◌, ◌<◌, ◌≤◌, [], length, MatchResult};
-ghost use Rattle.archive_shape.specs.ShapeLayout.Shape.{size_of};
-ghost use Rattle.archive_shape.specs.ShapeLayout.Edit.{Spares};
-ghost use Rattle.archive_shape.specs.ShapeLayout.Shape.Shape.{array};
-ghost use Rattle.archive_shape.specs.Bytes.{HasBytes, zeros, overwrite};
+ghost use Rattle.std.specs.Prelude.{◌≡◌, ◌+◌, ◌-◌, ◌*◌, ◌^◌, ◌<◌, ◌≤◌, [], length};
+ghost use Rattle.archive_shape_layout.specs.Shape.{size_of};
+ghost use Rattle.archive_shape.specs.Bytes.{HasBytes, zeros};
 ghost use Rattle.archive_forms_laws.specs.State.{State};
 ghost use Rattle.archive_forms_laws.specs.Regions.{resolvers};
-ghost use Rattle.archive_forms_laws.specs.Arrays.{array_own, array_own_fits, array_own_refused, array_spelling};
-ghost use Rattle.archive_forms_laws.specs.Serializing.{CanResolve, HasState, Resolves, Serializes, SerializesBy};
+ghost use Rattle.archive_forms_laws.specs.Arrays.{array_spelling};
+ghost use Rattle.archive_forms_laws.specs.Serializing.{CanResolve, HasState, Resolves, SerializesBy};
 ghost use Rattle.archive_forms_laws.proofs.Arrays.{array_spells};
 ghost use Rattle.archive_forms_writing.specs.Steps.{StepTakes, StepWrites};
+ghost use Rattle.archive_forms_writing.specs.Calls.Items.{ResolvesEach};
+ghost use Rattle.archive_forms_writing.specs.Calls.Resolving.{CanResolveArray, ResolvesArray};
+ghost use Rattle.archive_forms_writing.specs.Calls.Data.{WritesData};
 
 use crate::{Archive, Serialize, serialize_element};
 use archive_shape::{Allocator, Error, Place, Portable, Writer};
@@ -42,11 +43,7 @@ fn resolve_elements<T: Archive>(
     requires stands { pos + length items.now * size_of T.Archived.shape < 2 ^ 64 }
     requires blank { HasBytes out.old start (zeros (length items.now * size_of T.Archived.shape)) }
     requires made { (st : State) × (kept.now ≡ resolvers T.spelling items.now st) }
-    ensures { MatchResult result
-        (λ _. array_own_fits T.Archived.shape T.spelling items.now kept.now pos
-        × (out.new ≡ overwrite out.old start (array_own T.Archived.shape T.spelling items.now kept.now pos)))
-        (λ e. array_own_refused T.Archived.shape T.spelling items.now kept.now pos e
-        × Spares out.old out.new start (length items.now * size_of T.Archived.shape)) }
+    ensures { ResolvesEach T.Archived.shape T.spelling items.now kept.now start pos out.old out.new result }
 {
     let _len = out.len();
     let size = T::Archived::SIZE;
@@ -72,10 +69,8 @@ impl<T: Archive, const N: usize> Archive for [T; N] {
         resolver: [T::Resolver; N],
         out: Place<'_, [T::Archived; N]>,
     ) -> Result<(), Error>
-        requires { CanResolve (array_spelling N T.Archived.shape T.spelling) (array N T.Archived.shape)
-            self.now resolver out.out.now out.start out.pos }
-        ensures { Resolves (array_spelling N T.Archived.shape T.spelling) (array N T.Archived.shape)
-            self.now resolver out.entry.pos out.entry.start out.entry.out.now out.exit.0.now result }
+        requires { CanResolveArray T.Archived.shape T.spelling N self.now resolver out }
+        ensures { ResolvesArray T.Archived.shape T.spelling N self.now resolver out.entry out.exit result }
     {
         let Place {
             out,
@@ -109,8 +104,7 @@ pub fn serialize_array_each<
     requires state { HasState S.pos S.known serializer.old }
     requires takes { StepTakes F.Fn S.Writer step items.now }
     requires writes { StepWrites F.Fn (λ q. q.0) T.spelling S.Writer step }
-    ensures { Serializes (array_spelling N T.Archived.shape T.spelling) S.Writer items.now
-        serializer.old serializer.new result }
+    ensures { WritesData ⟦<[T; N] as Archive>⟧ S.Writer items.now serializer.old serializer.new result }
 {
     if N == 0 {
         return Ok(no_resolvers());

@@ -1,13 +1,15 @@
 //! The archiving of boxes.
-ghost use Rattle.std.specs.Prelude.{◌≡◌, ℕ, ◌-◌, ◌^◌, ◌<◌, [], ◌∷◌, refl};
-ghost use Rattle.archive_shape.specs.ShapeLayout.Shape.Shape.{box};
-ghost use Rattle.archive_shape.specs.ShapeLayout.Shape.Pointee.{sized};
+ghost use Rattle.std.specs.Prelude.{◌-◌, ◌^◌, ◌<◌, [], ◌∷◌, refl};
+ghost use Rattle.archive_shape_layout.specs.Shape.Shape.{box};
+ghost use Rattle.archive_shape_layout.specs.Shape.Pointee.{sized};
 ghost use Rattle.archive_forms_laws.specs.Pointers.{box_spelling};
-ghost use Rattle.archive_forms_laws.specs.Serializing.{CanResolve, HasState, Resolves, Serializes, SerializesBy};
+ghost use Rattle.archive_forms_laws.specs.Serializing.{HasState, SerializesBy};
 ghost use Rattle.archive_forms_laws.proofs.Pointers.{box_spells};
 ghost use Rattle.archive_forms_laws.proofs.Views.{kept_spells, seen_spells};
 ghost use Rattle.archive_forms_writing.specs.Owned.{boxed_spelling};
 ghost use Rattle.archive_forms_writing.specs.Steps.{StepTakes, StepWrites};
+ghost use Rattle.archive_forms_writing.specs.Calls.Resolving.{CanResolveBoxed, ResolvesBoxed};
+ghost use Rattle.archive_forms_writing.specs.Calls.Data.{WritesData};
 
 use crate::{Archive, Serialize, serialize_element, serialize_one_each};
 use archive_forms_values::{ArchivedBox, BoxResolver};
@@ -26,10 +28,8 @@ impl<T: Archive> Archive for Box<T> {
         resolver: BoxResolver,
         out: Place<'_, ArchivedBox<T::Archived>>,
     ) -> Result<(), Error>
-        requires { CanResolve (boxed_spelling T.Archived.shape T.spelling)
-            (box (sized T.Archived.shape)) self.now resolver out.out.now out.start out.pos }
-        ensures { Resolves (boxed_spelling T.Archived.shape T.spelling) (box (sized T.Archived.shape))
-            self.now resolver out.entry.pos out.entry.start out.entry.out.now out.exit.0.now result }
+        requires { CanResolveBoxed T.Archived.shape T.spelling self.now resolver out }
+        ensures { ResolvesBoxed T.Archived.shape T.spelling self.now resolver out.entry out.exit result }
     {
         let Place {
             out,
@@ -55,8 +55,7 @@ pub fn serialize_box_each<
     requires state { HasState S.pos S.known serializer.old }
     requires takes { StepTakes F.Fn S.Writer step (value.now.value ∷ []) }
     requires writes { StepWrites F.Fn (λ q. q.0) T.spelling S.Writer step }
-    ensures { Serializes (boxed_spelling T.Archived.shape T.spelling) S.Writer value.now
-        serializer.old serializer.new result }
+    ensures { WritesData ⟦<Box<T> as Archive>⟧ S.Writer value.now serializer.old serializer.new result }
 {
     match serialize_one_each(&**value, serializer, step) {
         Ok(pos) => Ok(BoxResolver { pos }),

@@ -1,17 +1,19 @@
 //! The archiving of boxes of slices and of texts.
-ghost use Rattle.std.specs.Prelude.{◌≡◌, ℕ, ◌-◌, ◌^◌, ◌<◌, ⊤, refl};
+ghost use Rattle.std.specs.Prelude.{◌-◌, ◌^◌, ◌<◌, ⊤, refl};
 ghost use Rattle.std.specs.Box.{boxed_slice_items, boxed_str_bytes};
-ghost use Rattle.archive_shape.specs.ShapeLayout.Shape.Shape.{box};
-ghost use Rattle.archive_shape.specs.ShapeLayout.Shape.Pointee.{slice, str};
+ghost use Rattle.archive_shape_layout.specs.Shape.Shape.{box};
+ghost use Rattle.archive_shape_layout.specs.Shape.Pointee.{slice, str};
 ghost use Rattle.archive_forms_laws.specs.Forms.{seen_as};
 ghost use Rattle.archive_forms_laws.specs.Pointers.{slice_spelling};
 ghost use Rattle.archive_forms_laws.specs.Texts.{boxed_text_spelling};
-ghost use Rattle.archive_forms_laws.specs.Serializing.{CanResolve, HasState, Resolves, Serializes, SerializesBy};
+ghost use Rattle.archive_forms_laws.specs.Serializing.{HasState, Serializes, SerializesBy};
 ghost use Rattle.archive_forms_laws.proofs.Pointers.{boxed_slice_spells};
 ghost use Rattle.archive_forms_laws.proofs.Texts.{boxed_text_spells};
 ghost use Rattle.archive_forms_laws.proofs.Views.{kept_spells, seen_spells};
 ghost use Rattle.archive_forms_writing.specs.Owned.{boxed_slice_spelling, boxed_str_spelling};
 ghost use Rattle.archive_forms_writing.specs.Steps.{StepTakes, StepWrites};
+ghost use Rattle.archive_forms_writing.specs.Calls.Resolving.{CanResolveBoxedSlice, ResolvesBoxedSlice, CanResolveBoxedStr, ResolvesBoxedStr};
+ghost use Rattle.archive_forms_writing.specs.Calls.Data.{WritesData};
 
 use crate::{Archive, Serialize, serialize_element, serialize_slice_each};
 use archive_forms_values::{ArchivedBoxedSlice, ArchivedBoxedStr, BoxResolver};
@@ -31,13 +33,8 @@ impl<T: Archive> Archive for BoxedSlice<T> {
         resolver: BoxResolver,
         out: Place<'_, ArchivedBoxedSlice<T::Archived>>,
     ) -> Result<(), Error>
-        requires { CanResolve (seen_as boxed_slice_items
-            (boxed_slice_spelling T.Archived.shape T.spelling)) (box (slice T.Archived.shape))
-            self.now resolver out.out.now out.start out.pos }
-        ensures { Resolves
-            (seen_as boxed_slice_items (boxed_slice_spelling T.Archived.shape T.spelling))
-            (box (slice T.Archived.shape)) self.now resolver out.entry.pos out.entry.start
-            out.entry.out.now out.exit.0.now result }
+        requires { CanResolveBoxedSlice T.Archived.shape T.spelling self.now resolver out }
+        ensures { ResolvesBoxedSlice T.Archived.shape T.spelling self.now resolver out.entry out.exit result }
     {
         let Place {
             out,
@@ -67,8 +64,7 @@ pub fn serialize_boxed_slice_each<
     requires state { HasState S.pos S.known serializer.old }
     requires takes { StepTakes F.Fn S.Writer step (boxed_slice_items items.now) }
     requires writes { StepWrites F.Fn (λ q. q.0) T.spelling S.Writer step }
-    ensures { Serializes (seen_as boxed_slice_items (boxed_slice_spelling T.Archived.shape T.spelling))
-        S.Writer items.now serializer.old serializer.new result }
+    ensures { WritesData ⟦<BoxedSlice<T> as Archive>⟧ S.Writer items.now serializer.old serializer.new result }
 {
     match serialize_slice_each(items.as_slice(), serializer, step) {
         Ok(pos) => Ok(BoxResolver { pos }),
@@ -115,10 +111,8 @@ impl Archive for BoxedStr {
     ghost spelling = { seen_as boxed_str_bytes boxed_str_spelling };
 
     fn resolve(&self, resolver: BoxResolver, out: Place<'_, ArchivedBoxedStr>) -> Result<(), Error>
-        requires { CanResolve (seen_as boxed_str_bytes boxed_str_spelling) (box str) self.now resolver
-            out.out.now out.start out.pos }
-        ensures { Resolves (seen_as boxed_str_bytes boxed_str_spelling) (box str) self.now resolver
-            out.entry.pos out.entry.start out.entry.out.now out.exit.0.now result }
+        requires { CanResolveBoxedStr self.now resolver out }
+        ensures { ResolvesBoxedStr self.now resolver out.entry out.exit result }
     {
         let Place {
             out,

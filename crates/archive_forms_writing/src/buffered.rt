@@ -1,12 +1,12 @@
 //! The writing of the own bytes of adjacent items, many of them at once.
-ghost use Rattle.std.specs.Prelude.{◌≡◌, ℕ, ◌+◌, ◌-◌, ◌*◌, ◌^◌, ◌<◌, ◌≤◌, length, take, min, IfOk, MatchResult, ⊤};
+ghost use Rattle.std.specs.Prelude.{◌≡◌, ◌+◌, ◌-◌, ◌*◌, ◌^◌, ◌<◌, ◌≤◌, length, take, min, IfOk, ⊤};
 ghost use Rattle.std.specs.Bool.{MatchBool};
-ghost use Rattle.archive_shape.specs.ShapeLayout.Shape.{size_of};
-ghost use Rattle.archive_shape_writing.specs.Writing.{Writes};
-ghost use Rattle.archive_shape.specs.Bytes.{HasBytes, zeros, overwrite};
+ghost use Rattle.archive_shape_layout.specs.Shape.{size_of};
+ghost use Rattle.archive_shape_layout.specs.Writing.{Writes};
+ghost use Rattle.archive_shape.specs.Bytes.{HasBytes, zeros};
 ghost use Rattle.archive_forms_laws.specs.State.{State};
-ghost use Rattle.archive_forms_laws.specs.Serializing.{Lays};
-ghost use Rattle.archive_forms_laws.specs.Regions.{placed_fits, placed_refused, resolvers, owns, owns_fit, owns_refused};
+ghost use Rattle.archive_forms_laws.specs.Regions.{resolvers};
+ghost use Rattle.archive_forms_writing.specs.Calls.Items.{FitAtOnce, ResolvesInBuffer, FillsBuffer, LaysOwns};
 
 use crate::ArchiveWith;
 use archive_shape::{Error, Place, Portable, Writer};
@@ -25,10 +25,7 @@ fn resolve_at<T, A: ArchiveWith<T>>(
     requires room { start + size_of A.Archived.shape ≤ length buffer.old }
     requires stands { pos + start + size_of A.Archived.shape < 2 ^ 64 }
     requires blank { HasBytes buffer.old start (zeros (size_of A.Archived.shape)) }
-    ensures { MatchResult result
-        (λ _. placed_fits (A.spelling with.now) A.Archived.shape value.now resolver (pos + start)
-        × (buffer.new ≡ overwrite buffer.old start ((A.spelling with.now).own value.now resolver (pos + start))))
-        (placed_refused (A.spelling with.now) A.Archived.shape value.now resolver (pos + start)) }
+    ensures { ResolvesInBuffer (A.spelling with.now) A.Archived.shape value.now resolver pos start buffer.old buffer.new result }
 {
     with.resolve_with(value, resolver, Place::within(buffer, start, pos + start))
 }
@@ -54,10 +51,7 @@ fn resolve_all<T, A: ArchiveWith<T>>(
     requires room { length items.now * size_of A.Archived.shape ≤ length buffer.old }
     requires stands { pos + length items.now * size_of A.Archived.shape < 2 ^ 64 }
     requires blank { buffer.old ≡ zeros (length buffer.old) }
-    ensures { (st : State) → kept.now ≡ resolvers (A.spelling with.now) items.now st → MatchResult result
-        (λ filled. (filled ≤ length buffer.new) × (take filled buffer.new ≡ owns (A.spelling with.now) items.now st pos)
-        × owns_fit (A.spelling with.now) A.Archived.shape items.now st pos)
-        (owns_refused (A.spelling with.now) A.Archived.shape items.now st pos) }
+    ensures { FillsBuffer (A.spelling with.now) A.Archived.shape items.now kept.now pos buffer.new result }
 {
     let _len = buffer.len();
     let size = A::Archived::SIZE;
@@ -100,10 +94,7 @@ pub(crate) fn resolve_through<T, A: ArchiveWith<T>, W: Writer>(
     requires made { (st : State) × (kept.now ≡ resolvers (A.spelling with.now) items.now st) }
     requires blank { buffer.old ≡ zeros (length buffer.old) }
     requires wide { size_of A.Archived.shape ≤ length buffer.old }
-    ensures { (st : State) → kept.now ≡ resolvers (A.spelling with.now) items.now st
-        → Lays W.Writer writer.old writer.new (owns (A.spelling with.now) items.now st (W.pos writer.old))
-        (λ _. owns_fit (A.spelling with.now) A.Archived.shape items.now st (W.pos writer.old))
-        (owns_refused (A.spelling with.now) A.Archived.shape items.now st (W.pos writer.old)) result }
+    ensures { LaysOwns (A.spelling with.now) A.Archived.shape W.Writer items.now kept.now writer.old writer.new result }
 {
     let len = buffer.len();
     let size = A::Archived::SIZE;
@@ -139,8 +130,7 @@ const LAST_BUFFER_POSITION: usize = usize::MAX - BUFFER_LEN;
 /// Returns `true` only if `count` adjacent elements have at most `BUFFER_LEN` bytes and end before position 2^64 where they
 /// begin at `pos`.
 pub(crate) fn are_few<T: Portable>(count: usize, pos: usize) -> bool
-    ensures { MatchBool result ((count * size_of T.shape ≤ BUFFER_LEN)
-        × (pos + count * size_of T.shape < 2 ^ 64)) ⊤ }
+    ensures { MatchBool result (FitAtOnce (size_of T.shape) BUFFER_LEN count pos) ⊤ }
 {
     let size = T::SIZE;
     let whole = count.saturating_mul(size);
@@ -164,10 +154,7 @@ pub(crate) fn resolve_at_once<T, A: ArchiveWith<T>, W: Writer>(
     requires made { (st : State) × (kept.now ≡ resolvers (A.spelling with.now) items.now st) }
     requires few { length items.now * size_of A.Archived.shape ≤ BUFFER_LEN }
     requires stands { W.pos writer.old + length items.now * size_of A.Archived.shape < 2 ^ 64 }
-    ensures { (st : State) → kept.now ≡ resolvers (A.spelling with.now) items.now st
-        → Lays W.Writer writer.old writer.new (owns (A.spelling with.now) items.now st (W.pos writer.old))
-        (λ _. owns_fit (A.spelling with.now) A.Archived.shape items.now st (W.pos writer.old))
-        (owns_refused (A.spelling with.now) A.Archived.shape items.now st (W.pos writer.old)) result }
+    ensures { LaysOwns (A.spelling with.now) A.Archived.shape W.Writer items.now kept.now writer.old writer.new result }
 {
     let mut buffer = [0; BUFFER_LEN];
     match resolve_all(with, items, kept, writer.pos(), &mut buffer) {

@@ -1,5 +1,5 @@
 //! The writing of a value as a whole archive.
-ghost use Rattle.std.specs.Prelude.{◌≡◌, ℕ, ◌-◌, ◌^◌, ◌<◌, [], ◌∷◌, OnOk};
+ghost use Rattle.std.specs.Prelude.{◌-◌, ◌^◌, ◌<◌, OnOk};
 ghost use Rattle.archive_forms_laws.specs.Pointers.{box_spelling};
 ghost use Rattle.archive_forms_laws.specs.Serializing.{HasState, Serializes, SerializesBy};
 ghost use Rattle.archive_forms_writing.specs.Root.{MakesArchive};

@@ -1,11 +1,11 @@
 //! The writing of elements: the data of all, and then their own bytes.
-ghost use Rattle.std.specs.Prelude.{◌≡◌, ◌+◌, ◌-◌, ◌^◌, ◌<◌, ◌≤◌, length, take, [], ◌∷◌};
+ghost use Rattle.std.specs.Prelude.{◌≡◌, ◌-◌, ◌^◌, ◌<◌, ◌≤◌, length, [], ◌∷◌};
 ghost use Rattle.archive_forms_laws.specs.State.{State};
-ghost use Rattle.archive_forms_laws.specs.Serializing.{IsAt, HasState, Lays, LaysData, Serializes, SerializesBy};
-ghost use Rattle.archive_forms_laws.specs.Regions.{state_after_all, pieces, resolvers, owns, pieces_fit, pieces_refused, owns_fit, owns_refused};
+ghost use Rattle.archive_forms_laws.specs.Serializing.{HasState, Serializes, SerializesBy};
+ghost use Rattle.archive_forms_laws.specs.Regions.{resolvers};
 ghost use Rattle.archive_forms_laws.specs.Pointers.{slice_spelling, box_spelling};
-ghost use Rattle.archive_forms_writing.specs.Behind.{LaysBehind};
 ghost use Rattle.archive_forms_writing.specs.Steps.{StepTakes, StepWrites};
+ghost use Rattle.archive_forms_writing.specs.Calls.Items.{SerializesAll, SerializesFew, LaysOwns, LaysOwnsBehind};
 
 use crate::buffered::{are_few, resolve_at_once, resolve_through};
 use crate::{Archive, ArchiveWith, ByArchive, Serialize, align, resolve_aligned};
@@ -52,10 +52,7 @@ fn serialize_data_each<
     requires state { HasState S.pos S.known serializer.old }
     requires takes { StepTakes F.Fn S.Writer step items.now }
     requires writes { StepWrites F.Fn (λ q. q.0) (A.spelling with.now) S.Writer step }
-    ensures { (st : State) → IsAt S.pos S.known serializer.old st
-        → LaysData S.Writer serializer.old serializer.new (pieces (A.spelling with.now) items.now st)
-        (λ all. (all.items ≡ resolvers (A.spelling with.now) items.now st) × pieces_fit (A.spelling with.now) items.now st × IsAt S.pos S.known serializer.new (state_after_all (A.spelling with.now) items.now st))
-        (pieces_refused (A.spelling with.now) items.now st) result }
+    ensures { SerializesAll (A.spelling with.now) S.Writer items.now serializer.old serializer.new result }
 {
     let Ok(mut all) = Vec::with_capacity(serializer.memory(), items.len()) else {
         return Err(Error::OutOfMemory);
@@ -86,10 +83,7 @@ fn serialize_few_each<
     requires state { HasState S.pos S.known serializer.old }
     requires takes { StepTakes F.Fn S.Writer step items.now }
     requires writes { StepWrites F.Fn (λ q. q.0) (A.spelling with.now) S.Writer step }
-    ensures { (st : State) → IsAt S.pos S.known serializer.old st
-        → LaysData S.Writer serializer.old serializer.new (pieces (A.spelling with.now) items.now st)
-        (λ all. (take (length items.now) all ≡ resolvers (A.spelling with.now) items.now st) × pieces_fit (A.spelling with.now) items.now st × IsAt S.pos S.known serializer.new (state_after_all (A.spelling with.now) items.now st))
-        (pieces_refused (A.spelling with.now) items.now st) result }
+    ensures { SerializesFew (A.spelling with.now) S.Writer items.now serializer.old serializer.new result }
 {
     let first = match step(&items[0], serializer) {
         Ok(done) => done.0,
@@ -117,10 +111,7 @@ fn resolve_buffered<T, A: ArchiveWith<T>, S: Writer + Allocator>(
 ) -> Result<(), Error>
     requires room { S.failures serializer.old < 2 ^ 64 - 1 }
     requires made { (st : State) × (kept.now ≡ resolvers (A.spelling with.now) items.now st) }
-    ensures { (st : State) → kept.now ≡ resolvers (A.spelling with.now) items.now st
-        → Lays S.Writer serializer.old serializer.new (owns (A.spelling with.now) items.now st (S.pos serializer.old))
-        (λ _. owns_fit (A.spelling with.now) A.Archived.shape items.now st (S.pos serializer.old))
-        (owns_refused (A.spelling with.now) A.Archived.shape items.now st (S.pos serializer.old)) result }
+    ensures { LaysOwns (A.spelling with.now) A.Archived.shape S.Writer items.now kept.now serializer.old serializer.new result }
 {
     let size = A::Archived::SIZE;
     if size <= BUFFER {
@@ -143,10 +134,7 @@ fn resolve_items<T, A: ArchiveWith<T>, S: Writer + Allocator>(
 ) -> Result<(), Error>
     requires room { S.failures serializer.old < 2 ^ 64 - 1 }
     requires made { (st : State) × (kept.now ≡ resolvers (A.spelling with.now) items.now st) }
-    ensures { (st : State) → kept.now ≡ resolvers (A.spelling with.now) items.now st
-        → Lays S.Writer serializer.old serializer.new (owns (A.spelling with.now) items.now st (S.pos serializer.old))
-        (λ _. owns_fit (A.spelling with.now) A.Archived.shape items.now st (S.pos serializer.old))
-        (owns_refused (A.spelling with.now) A.Archived.shape items.now st (S.pos serializer.old)) result }
+    ensures { LaysOwns (A.spelling with.now) A.Archived.shape S.Writer items.now kept.now serializer.old serializer.new result }
 {
     if are_few::<A::Archived>(items.len(), serializer.pos()) {
         return resolve_at_once(with, items, kept, serializer);
@@ -165,8 +153,7 @@ fn resolve_behind<T, A: ArchiveWith<T>, S: Writer + Allocator>(
 ) -> Result<usize, Error>
     requires room { S.failures serializer.old < 2 ^ 64 - 1 }
     requires made { (st : State) × (kept.now ≡ resolvers (A.spelling with.now) items.now st) }
-    ensures { (st : State) → kept.now ≡ resolvers (A.spelling with.now) items.now st
-        → LaysBehind A.Archived.shape (A.spelling with.now) S.Writer items.now st serializer.old serializer.new (S.pos serializer.old) result }
+    ensures { LaysOwnsBehind (A.spelling with.now) A.Archived.shape S.Writer items.now kept.now serializer.old serializer.new result }
 {
     let to = match align(serializer, A::Archived::ALIGN) {
         Ok(to) => to,

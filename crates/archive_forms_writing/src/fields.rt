@@ -1,7 +1,5 @@
 //! The writing of the fields of tuples and structs.
-ghost use Rattle.std.specs.Prelude.{ℕ, ◌+◌};
-ghost use Rattle.archive_forms_laws.specs.Serializing.{CanResolve};
-ghost use Rattle.archive_forms_writing.specs.Fields.{field_at, ResolvesField};
+ghost use Rattle.archive_forms_writing.specs.Fields.{ResolvesField, CanResolveField};
 
 use crate::Archive;
 use archive_forms_values::next_multiple;
@@ -18,8 +16,7 @@ pub fn resolve_field<T: Archive>(
     pos: usize,
     offset: usize,
 ) -> Result<usize, Error>
-    requires { CanResolve T.spelling T.Archived.shape value.now resolver out.old
-        (start + field_at T.Archived.shape offset) (pos + field_at T.Archived.shape offset) }
+    requires { CanResolveField T.spelling T.Archived.shape value.now resolver pos start offset out.old }
     ensures { ResolvesField T.spelling T.Archived.shape value.now resolver pos start offset out.old
         out.new result }
 {

@@ -1,12 +1,12 @@
 //! `KeyOf`, the trait of archived keys that owned values are archived as.
-ghost use Rattle.std.specs.Prelude.{◌≡◌, ℕ, List};
+ghost use Rattle.std.specs.Prelude.{ℕ, List};
 ghost use Rattle.std.specs.String.{string_bytes};
 ghost use Rattle.std.proofs.Common.{subst, sym};
-ghost use Rattle.archive_shape.specs.ShapeLayout.Bytes.{window};
-ghost use Rattle.archive_shape.specs.ShapeLayout.Numbers.{Reads};
+ghost use Rattle.archive_shape_layout.specs.Bytes.{window};
+ghost use Rattle.archive_shape_layout.specs.Numbers.{Reads};
 ghost use Rattle.archive_shape.specs.Key.{HeldAt};
 ghost use Rattle.archive_shape.proofs.Held.{claims_within};
-ghost use Rattle.archive_forms_laws.specs.ShapeCanonical.Canonical.{AreBytes};
+ghost use Rattle.archive_shape_canonical.specs.Canonical.{AreBytes};
 ghost use Rattle.archive_forms_laws.specs.State.{State};
 ghost use Rattle.archive_forms_laws.specs.Text.{IsText};
 ghost use Rattle.archive_forms_laws.proofs.Held.{held_is_text_law, one_string};

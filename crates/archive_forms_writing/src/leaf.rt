@@ -1,10 +1,10 @@
 //! The archiving of numbers, truth values and chars.
-ghost use Rattle.std.specs.Prelude.{◌≡◌, ℕ, ◌+◌, ◌≤◌, length};
-ghost use Rattle.archive_shape.specs.ShapeLayout.Numbers.{Reads};
+ghost use Rattle.std.specs.Prelude.{◌≡◌, length};
+ghost use Rattle.archive_shape_layout.specs.Numbers.{Reads};
 ghost use Rattle.archive_forms_laws.specs.Forms.{leaf_spelling};
-ghost use Rattle.archive_forms_laws.specs.Serializing.{CanResolve, Resolves};
-ghost use Rattle.archive_forms_laws.specs.ShapeCanonical.Canonical.{AreBytes};
+ghost use Rattle.archive_shape_canonical.specs.Canonical.{AreBytes};
 ghost use Rattle.archive_forms_laws.proofs.Leaves.{leaf_spells};
+ghost use Rattle.archive_forms_laws.specs.Serializing.{CanResolveAt, ResolvesAt};
 
 use crate::{Archive, Serialize};
 use archive_shape::{Allocator, ArchivedLeaf, Error, LittleEndian, Place, Portable, Writer};
@@ -38,11 +38,8 @@ impl<N: Leaf> Archive for N {
     ghost spelling = { leaf_spelling N.Archived.shape N.Archived.bytes_of N.Archived.value_of };
 
     fn resolve(&self, _resolver: (), out: Place<'_, N::Archived>) -> Result<(), Error>
-        requires { CanResolve (leaf_spelling N.Archived.shape N.Archived.bytes_of N.Archived.value_of)
-            N.Archived.shape self.now tt out.out.now out.start out.pos }
-        ensures { Resolves (leaf_spelling N.Archived.shape N.Archived.bytes_of N.Archived.value_of)
-            N.Archived.shape self.now tt out.entry.pos out.entry.start out.entry.out.now out.exit.0.now
-            result }
+        requires { CanResolveAt ⟦<N as Archive>⟧.spelling N.Archived.shape self.now tt out }
+        ensures { ResolvesAt ⟦<N as Archive>⟧.spelling N.Archived.shape self.now tt out.entry out.exit result }
     {
         let Place { out, start, .. } = out;
         let end = start + N::Archived::SIZE;

@@ -45,3 +45,14 @@ pub use tuple2::serialize_tuple2_each;
 pub use tuple3::serialize_tuple3_each;
 pub use tuple4::serialize_tuple4_each;
 pub use vector::serialize_vec_each;
+
+mod boxing;
+mod collections;
+mod steps;
+
+pub use boxing::{ArchiveUnsized, SerializeUnsized, resolve_from_ref, serialize_from_ref};
+pub use collections::{
+    EntryAdapter, EntryResolver, collect_items, resolve_from_slice, serialize_entry_each,
+    serialize_from_iter, serialize_from_iter_each, serialize_from_slice,
+};
+pub use steps::{EntryParts, EntryStep, SerializeEntry};

@@ -2,8 +2,8 @@
 ghost use Rattle.std.specs.Prelude.{◌≡◌, List, length, ℕ, refl};
 ghost use Rattle.std.specs.Int.{w16, w32, w64, w128};
 ghost use Rattle.std.specs.Int.NonZero.{non_zero_u16_get, non_zero_u32_get, non_zero_u64_get, non_zero_u128_get, non_zero_i16_get, non_zero_i32_get, non_zero_i64_get, non_zero_i128_get};
-ghost use Rattle.archive_shape.specs.ShapeLayout.Numbers.{Reads};
-ghost use Rattle.archive_forms_laws.specs.ShapeCanonical.Canonical.{AreBytes};
+ghost use Rattle.archive_shape_layout.specs.Numbers.{Reads};
+ghost use Rattle.archive_shape_canonical.specs.Canonical.{AreBytes};
 ghost use Rattle.archive_forms_laws.proofs.OwnBytes.{unsigned_own, signed_own, nonzero_unsigned_own, nonzero_signed_own, char_own};
 
 use crate::Leaf;

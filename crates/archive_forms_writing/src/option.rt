@@ -1,13 +1,15 @@
 //! The archiving of options.
-ghost use Rattle.std.specs.Prelude.{◌≡◌, ℕ, ◌+◌, ◌-◌, ◌^◌, ◌<◌, ◌≤◌};
-ghost use Rattle.archive_shape.specs.ShapeLayout.Shape.Shape.{option};
-ghost use Rattle.archive_forms_laws.specs.Serializing.{CanResolve, HasState, Resolves, Serializes, SerializesBy};
+ghost use Rattle.std.specs.Prelude.{◌-◌, ◌^◌, ◌<◌};
+ghost use Rattle.archive_shape_layout.specs.Shape.Shape.{option};
+ghost use Rattle.archive_forms_laws.specs.Serializing.{HasState, SerializesBy};
 ghost use Rattle.archive_forms_laws.specs.Options.{option_spelling};
 ghost use Rattle.archive_forms_laws.proofs.Options.{option_spells};
 ghost use Rattle.archive_forms_writing.specs.Steps.{StepTakes, StepWrites, elements_of};
+ghost use Rattle.archive_forms_writing.specs.Calls.Resolving.{CanResolveOption, ResolvesOption};
+ghost use Rattle.archive_forms_writing.specs.Calls.Data.{WritesData};
 
 use crate::{Archive, Serialize, serialize_element};
-use archive_forms_values::ArchivedOption;
+use archive_forms_values::{ArchivedOption, SOME_TAG};
 use archive_shape::{Allocator, Error, Place, Portable, Writer};
 use std::marker::PhantomData;
 
@@ -23,10 +25,8 @@ impl<T: Archive> Archive for Option<T> {
         resolver: Option<T::Resolver>,
         out: Place<'_, ArchivedOption<T::Archived>>,
     ) -> Result<(), Error>
-        requires { CanResolve (option_spelling T.Archived.shape T.spelling) (option T.Archived.shape)
-            self.now resolver out.out.now out.start out.pos }
-        ensures { Resolves (option_spelling T.Archived.shape T.spelling) (option T.Archived.shape)
-            self.now resolver out.entry.pos out.entry.start out.entry.out.now out.exit.0.now result }
+        requires { CanResolveOption T.Archived.shape T.spelling self.now resolver out }
+        ensures { ResolvesOption T.Archived.shape T.spelling self.now resolver out.entry out.exit result }
     {
         let Place {
             out,
@@ -41,7 +41,7 @@ impl<T: Archive> Archive for Option<T> {
             return Ok(());
         };
         let offset = T::Archived::ALIGN;
-        out[start] = 1;
+        out[start] = SOME_TAG;
         value.resolve(kept, Place::within(out, start + offset, pos + offset))
     }
 
@@ -58,8 +58,7 @@ pub fn serialize_option_each<
     requires state { HasState S.pos S.known serializer.old }
     requires takes { StepTakes F.Fn S.Writer step (elements_of option.now) }
     requires writes { StepWrites F.Fn (λ q. q.0) T.spelling S.Writer step }
-    ensures { Serializes (option_spelling T.Archived.shape T.spelling) S.Writer option.now
-        serializer.old serializer.new result }
+    ensures { WritesData ⟦<Option<T> as Archive>⟧ S.Writer option.now serializer.old serializer.new result }
 {
     match option {
         None => Ok(None),

@@ -1,13 +1,11 @@
 //! The writing of padding, and of own bytes at a writer's position.
-ghost use Rattle.std.specs.Prelude.{◌≡◌, ℕ, ◌+◌, ◌-◌, ◌^◌, ◌<◌, ◌≤◌, length, IfOk, MatchResult};
-ghost use Rattle.archive_shape.specs.ShapeLayout.Bytes.{align_up};
-ghost use Rattle.archive_shape.specs.ShapeLayout.Shape.{size_of};
-ghost use Rattle.archive_shape_writing.specs.Writing.{Writes};
+ghost use Rattle.std.specs.Prelude.{◌≡◌, ◌+◌, ◌-◌, ◌^◌, ◌<◌, ◌≤◌, IfOk};
+ghost use Rattle.archive_shape_layout.specs.Bytes.{align_up};
+ghost use Rattle.archive_shape_layout.specs.Shape.{size_of};
+ghost use Rattle.archive_shape_layout.specs.Writing.{Writes};
 ghost use Rattle.archive_shape.specs.Bytes.{zeros};
 ghost use Rattle.archive_forms_laws.specs.State.{State};
-ghost use Rattle.archive_forms_laws.specs.ShapeCanonical.Canonical.{AreBytes};
-ghost use Rattle.archive_forms_laws.specs.Serializing.{Lays};
-ghost use Rattle.archive_forms_laws.specs.Regions.{placed_fits, placed_refused};
+ghost use Rattle.archive_forms_writing.specs.Calls.Placing.{Aligns, ResolvesWhole, LaysOwn};
 
 use crate::Archive;
 use archive_shape::{Error, Place, Portable, Writer};
@@ -41,8 +39,7 @@ pub fn align<W: Writer>(writer: &mut W, align: usize) -> Result<usize, Error>
     requires room { W.failures writer.old < 2 ^ 64 - 1 }
     requires positive { 0 < align }
     requires small { align ≤ 32 }
-    ensures writes { Writes W.Writer writer.old writer.new
-        (zeros (align_up (W.pos writer.old) align - W.pos writer.old)) result }
+    ensures writes { Aligns W.Writer writer.old writer.new align result }
     ensures aligned { IfOk result (λ pos. pos ≡ align_up (W.pos writer.old) align) }
 {
     let pos = writer.pos();
@@ -62,9 +59,7 @@ fn resolve_into<T: Archive>(
     requires blank { out.old ≡ zeros (size_of T.Archived.shape) }
     requires stands { pos + size_of T.Archived.shape < 2 ^ 64 }
     requires made { (st : State) × (resolver ≡ T.spelling.resolver value.now st) }
-    ensures { MatchResult result
-        (λ _. T.spelling.own_fits value.now resolver pos × (out.new ≡ T.spelling.own value.now resolver pos))
-        (T.spelling.own_refused value.now resolver pos) }
+    ensures { ResolvesWhole T.spelling value.now resolver pos out.new result }
 {
     value.resolve(resolver, Place::new(out, pos))
 }
@@ -81,9 +76,7 @@ fn write_through<T: Archive, W: Writer>(
     requires made { (st : State) × (resolver ≡ T.spelling.resolver value.now st) }
     requires blank { own.old ≡ zeros (size_of T.Archived.shape) }
     requires stands { W.pos writer.old + size_of T.Archived.shape < 2 ^ 64 }
-    ensures { Lays W.Writer writer.old writer.new (T.spelling.own value.now resolver (W.pos writer.old))
-        (λ _. placed_fits T.spelling T.Archived.shape value.now resolver (W.pos writer.old))
-        (placed_refused T.spelling T.Archived.shape value.now resolver (W.pos writer.old)) result }
+    ensures { LaysOwn T.spelling T.Archived.shape W.Writer value.now resolver writer.old writer.new result }
 {
     match resolve_into(value, resolver, writer.pos(), own) {
         Ok(()) => writer.write(own),
@@ -103,9 +96,7 @@ pub fn resolve_aligned<T: Archive, W: Writer>(
 ) -> Result<(), Error>
     requires room { W.failures writer.old < 2 ^ 64 - 1 }
     requires made { (st : State) × (resolver ≡ T.spelling.resolver value.now st) }
-    ensures { Lays W.Writer writer.old writer.new (T.spelling.own value.now resolver (W.pos writer.old))
-        (λ _. placed_fits T.spelling T.Archived.shape value.now resolver (W.pos writer.old))
-        (placed_refused T.spelling T.Archived.shape value.now resolver (W.pos writer.old)) result }
+    ensures { LaysOwn T.spelling T.Archived.shape W.Writer value.now resolver writer.old writer.new result }
 {
     let size = T::Archived::SIZE;
     if writer.pos().checked_add(size).is_none() {

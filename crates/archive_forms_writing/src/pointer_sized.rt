@@ -1,10 +1,10 @@
 //! `usize` and `isize`, which are archived as numbers of four bytes.
-ghost use Rattle.std.specs.Prelude.{◌≡◌, true, false, ⊤};
+ghost use Rattle.std.specs.Prelude.{true, false, ⊤};
 ghost use Rattle.std.specs.Int.{w32};
-ghost use Rattle.archive_shape.specs.ShapeLayout.Shape.Shape.{number};
+ghost use Rattle.archive_shape_layout.specs.Shape.Shape.{number};
 ghost use Rattle.archive_forms_laws.specs.Limits.{usize_spelling, isize_spelling};
-ghost use Rattle.archive_forms_laws.specs.Serializing.{CanResolve, Resolves};
 ghost use Rattle.archive_forms_laws.proofs.Limits.{usize_spells, isize_spells};
+ghost use Rattle.archive_forms_laws.specs.Serializing.{CanResolveAt, ResolvesAt};
 
 use crate::{Archive, Serialize};
 use archive_shape::{Allocator, ArchivedIsize, ArchivedUsize, Error, Place, Writer};
@@ -17,10 +17,8 @@ impl Archive for usize {
     ghost spelling = { usize_spelling };
 
     fn resolve(&self, resolver: (), out: Place<'_, ArchivedUsize>) -> Result<(), Error>
-        requires { CanResolve usize_spelling (number w32 false) self.now tt out.out.now
-            out.start out.pos }
-        ensures { Resolves usize_spelling (number w32 false) self.now tt out.entry.pos out.entry.start
-            out.entry.out.now out.exit.0.now result }
+        requires { CanResolveAt usize_spelling (number w32 false) self.now tt out }
+        ensures { ResolvesAt usize_spelling (number w32 false) self.now tt out.entry out.exit result }
     {
         let Place {
             out,
@@ -51,10 +49,8 @@ impl Archive for isize {
     ghost spelling = { isize_spelling };
 
     fn resolve(&self, resolver: (), out: Place<'_, ArchivedIsize>) -> Result<(), Error>
-        requires { CanResolve isize_spelling (number w32 true) self.now tt out.out.now
-            out.start out.pos }
-        ensures { Resolves isize_spelling (number w32 true) self.now tt out.entry.pos out.entry.start
-            out.entry.out.now out.exit.0.now result }
+        requires { CanResolveAt isize_spelling (number w32 true) self.now tt out }
+        ensures { ResolvesAt isize_spelling (number w32 true) self.now tt out.entry out.exit result }
     {
         let Place {
             out,

@@ -1,11 +1,12 @@
 //! The archiving of results.
-ghost use Rattle.std.specs.Prelude.{◌≡◌, ℕ, ◌+◌, ◌-◌, ◌^◌, ◌<◌, ◌≤◌};
-ghost use Rattle.archive_shape.specs.ShapeLayout.Shape.Shape.{result as result_shape};
+ghost use Rattle.std.specs.Prelude.{◌-◌, ◌^◌, ◌<◌};
 ghost use Rattle.archive_forms_laws.specs.Results.{result_spelling};
-ghost use Rattle.archive_forms_laws.specs.Serializing.{CanResolve, HasState, Resolves, Serializes, SerializesBy};
+ghost use Rattle.archive_forms_laws.specs.Serializing.{HasState, SerializesBy};
 ghost use Rattle.archive_forms_laws.proofs.SpellingResults.{result_spells};
 ghost use Rattle.archive_forms_laws.proofs.Views.{known_spells};
 ghost use Rattle.archive_forms_writing.specs.Steps.{StepTakes, StepWrites, values_of, errors_of};
+ghost use Rattle.archive_forms_writing.specs.Calls.Resolving.{CanResolveResult, ResolvesResult};
+ghost use Rattle.archive_forms_writing.specs.Calls.Data.{WritesData};
 
 use crate::{Archive, Serialize, serialize_element};
 use archive_forms_values::ArchivedResult;
@@ -24,12 +25,8 @@ impl<T: Archive, E: Archive> Archive for Result<T, E> {
         resolver: Result<T::Resolver, E::Resolver>,
         out: Place<'_, ArchivedResult<T::Archived, E::Archived>>,
     ) -> Result<(), Error>
-        requires { CanResolve (result_spelling T.Archived.shape E.Archived.shape T.spelling E.spelling)
-            (result_shape T.Archived.shape E.Archived.shape) self.now resolver out.out.now
-            out.start out.pos }
-        ensures { Resolves (result_spelling T.Archived.shape E.Archived.shape T.spelling E.spelling)
-            (result_shape T.Archived.shape E.Archived.shape) self.now resolver out.entry.pos
-            out.entry.start out.entry.out.now out.exit.0.now result }
+        requires { CanResolveResult T.Archived.shape E.Archived.shape T.spelling E.spelling self.now resolver out }
+        ensures { ResolvesResult T.Archived.shape E.Archived.shape T.spelling E.spelling self.now resolver out.entry out.exit result }
     {
         let Place {
             out,
@@ -80,8 +77,7 @@ pub fn serialize_result_each<
     requires writes { StepWrites F.Fn (λ q. q.0) T.spelling S.Writer step }
     requires takes_errors { StepTakes G.Fn S.Writer step_of_error (errors_of outcome.now) }
     requires writes_errors { StepWrites G.Fn (λ q. q.0) E.spelling S.Writer step_of_error }
-    ensures { Serializes (result_spelling T.Archived.shape E.Archived.shape T.spelling E.spelling)
-        S.Writer outcome.now serializer.old serializer.new result }
+    ensures { WritesData ⟦<Result<T, E> as Archive>⟧ S.Writer outcome.now serializer.old serializer.new result }
 {
     match outcome {
         Ok(value) => match step(value, serializer) {

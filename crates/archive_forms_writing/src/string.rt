@@ -1,9 +1,9 @@
 //! The archiving of texts.
-ghost use Rattle.std.specs.Prelude.{◌≡◌, ℕ, ◌+◌, ◌-◌, ◌^◌, ◌<◌, ⊤, refl};
+ghost use Rattle.std.specs.Prelude.{◌-◌, ◌^◌, ◌<◌, ⊤, refl};
 ghost use Rattle.std.specs.String.{string_bytes};
-ghost use Rattle.archive_shape.specs.ShapeLayout.Shape.Shape.{text};
+ghost use Rattle.archive_shape_layout.specs.Shape.Shape.{text};
 ghost use Rattle.archive_forms_laws.specs.Texts.{text_spelling};
-ghost use Rattle.archive_forms_laws.specs.Serializing.{CanResolve, HasState, Resolves, Serializes};
+ghost use Rattle.archive_forms_laws.specs.Serializing.{HasState, Serializes, CanResolveAt, ResolvesAt};
 ghost use Rattle.archive_forms_laws.proofs.Texts.{text_spells};
 ghost use Rattle.archive_forms_laws.proofs.Views.{kept_spells, seen_spells};
 ghost use Rattle.archive_forms_writing.specs.Owned.{str_spelling, string_spelling};
@@ -20,9 +20,8 @@ impl Archive for String {
     ghost spelling = { string_spelling };
 
     fn resolve(&self, resolver: StringResolver, out: Place<'_, ArchivedString>) -> Result<(), Error>
-        requires { CanResolve string_spelling text self.now resolver out.out.now out.start out.pos }
-        ensures { Resolves string_spelling text self.now resolver out.entry.pos out.entry.start
-            out.entry.out.now out.exit.0.now result }
+        requires { CanResolveAt string_spelling text self.now resolver out }
+        ensures { ResolvesAt string_spelling text self.now resolver out.entry out.exit result }
     {
         let Place {
             out,

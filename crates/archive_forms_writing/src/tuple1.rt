@@ -1,10 +1,11 @@
 //! The archiving of tuples of one field.
-ghost use Rattle.std.specs.Prelude.{◌≡◌, ℕ, ◌+◌, ◌-◌, ◌^◌, ◌<◌, ◌≤◌, [], ◌∷◌};
-ghost use Rattle.archive_forms_values.specs.Tuples.{tuple1};
+ghost use Rattle.std.specs.Prelude.{◌-◌, ◌^◌, ◌<◌, [], ◌∷◌};
 ghost use Rattle.archive_forms_laws.specs.Fields.{tuple1_spelling};
-ghost use Rattle.archive_forms_laws.specs.Serializing.{CanResolve, HasState, Resolves, Serializes, SerializesBy};
+ghost use Rattle.archive_forms_laws.specs.Serializing.{HasState, SerializesBy};
 ghost use Rattle.archive_forms_laws.proofs.Fields.{tuple1_spells};
 ghost use Rattle.archive_forms_writing.specs.Steps.{StepTakes, StepWrites};
+ghost use Rattle.archive_forms_writing.specs.Calls.Resolving.{CanResolveTuple1, ResolvesTuple1};
+ghost use Rattle.archive_forms_writing.specs.Calls.Data.{WritesData};
 
 use crate::{Archive, Serialize, resolve_field, serialize_element};
 use archive_forms_values::ArchivedTuple1;
@@ -23,10 +24,8 @@ impl<A: Archive> Archive for (A,) {
         resolver: (A::Resolver,),
         out: Place<'_, ArchivedTuple1<A::Archived>>,
     ) -> Result<(), Error>
-        requires { CanResolve (tuple1_spelling A.Archived.shape A.spelling) (tuple1 A.Archived.shape)
-            self.now resolver out.out.now out.start out.pos }
-        ensures { Resolves (tuple1_spelling A.Archived.shape A.spelling) (tuple1 A.Archived.shape)
-            self.now resolver out.entry.pos out.entry.start out.entry.out.now out.exit.0.now result }
+        requires { CanResolveTuple1 A.Archived.shape A.spelling self.now resolver out }
+        ensures { ResolvesTuple1 A.Archived.shape A.spelling self.now resolver out.entry out.exit result }
     {
         let Place {
             out,
@@ -53,8 +52,7 @@ pub fn serialize_tuple1_each<
     requires state { HasState S.pos S.known serializer.old }
     requires takes_first { StepTakes F.Fn S.Writer first (tuple.now.0 ∷ []) }
     requires writes_first { StepWrites F.Fn (λ q. q.0) A.spelling S.Writer first }
-    ensures { Serializes (tuple1_spelling A.Archived.shape A.spelling) S.Writer tuple.now
-        serializer.old serializer.new result }
+    ensures { WritesData ⟦<(A,) as Archive>⟧ S.Writer tuple.now serializer.old serializer.new result }
 {
     let a = match first(&tuple.0, serializer) {
         Ok(done) => done.0,

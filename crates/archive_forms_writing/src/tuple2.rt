@@ -1,11 +1,12 @@
 //! The archiving of tuples of two fields.
-ghost use Rattle.std.specs.Prelude.{◌≡◌, ℕ, ◌+◌, ◌-◌, ◌^◌, ◌<◌, ◌≤◌, [], ◌∷◌};
-ghost use Rattle.archive_forms_values.specs.Tuples.{tuple2};
+ghost use Rattle.std.specs.Prelude.{◌-◌, ◌^◌, ◌<◌, [], ◌∷◌};
 ghost use Rattle.archive_forms_laws.specs.Fields.{tuple2_spelling};
-ghost use Rattle.archive_forms_laws.specs.Serializing.{CanResolve, HasState, Resolves, Serializes, SerializesBy};
+ghost use Rattle.archive_forms_laws.specs.Serializing.{HasState, SerializesBy};
 ghost use Rattle.archive_forms_laws.proofs.Fields.{tuple2_spells};
 ghost use Rattle.archive_forms_laws.proofs.Views.{known_spells};
 ghost use Rattle.archive_forms_writing.specs.Steps.{StepTakes, StepWrites};
+ghost use Rattle.archive_forms_writing.specs.Calls.Resolving.{CanResolveTuple2, ResolvesTuple2};
+ghost use Rattle.archive_forms_writing.specs.Calls.Data.{WritesData};
 
 use crate::{Archive, Serialize, resolve_field, serialize_element};
 use archive_forms_values::ArchivedTuple2;
@@ -24,11 +25,8 @@ impl<A: Archive, B: Archive> Archive for (A, B) {
         resolver: (A::Resolver, B::Resolver),
         out: Place<'_, ArchivedTuple2<A::Archived, B::Archived>>,
     ) -> Result<(), Error>
-        requires { CanResolve (tuple2_spelling A.Archived.shape A.spelling B.Archived.shape B.spelling)
-            (tuple2 A.Archived.shape B.Archived.shape) self.now resolver out.out.now out.start out.pos }
-        ensures { Resolves (tuple2_spelling A.Archived.shape A.spelling B.Archived.shape B.spelling)
-            (tuple2 A.Archived.shape B.Archived.shape) self.now resolver out.entry.pos out.entry.start
-            out.entry.out.now out.exit.0.now result }
+        requires { CanResolveTuple2 A.Archived.shape A.spelling B.Archived.shape B.spelling self.now resolver out }
+        ensures { ResolvesTuple2 A.Archived.shape A.spelling B.Archived.shape B.spelling self.now resolver out.entry out.exit result }
     {
         let Place {
             out,
@@ -70,8 +68,7 @@ pub fn serialize_tuple2_each<
     requires writes_first { StepWrites F.Fn (λ q. q.0) A.spelling S.Writer first }
     requires takes_second { StepTakes G.Fn S.Writer second (tuple.now.1 ∷ []) }
     requires writes_second { StepWrites G.Fn (λ q. q.0) B.spelling S.Writer second }
-    ensures { Serializes (tuple2_spelling A.Archived.shape A.spelling B.Archived.shape B.spelling)
-        S.Writer tuple.now serializer.old serializer.new result }
+    ensures { WritesData ⟦<(A, B) as Archive>⟧ S.Writer tuple.now serializer.old serializer.new result }
 {
     let a = match first(&tuple.0, serializer) {
         Ok(done) => done.0,

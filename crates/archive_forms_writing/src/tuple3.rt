@@ -1,11 +1,12 @@
 //! The archiving of tuples of three fields.
-ghost use Rattle.std.specs.Prelude.{◌≡◌, ℕ, ◌+◌, ◌-◌, ◌^◌, ◌<◌, ◌≤◌, [], ◌∷◌};
-ghost use Rattle.archive_forms_values.specs.Tuples.{tuple3};
+ghost use Rattle.std.specs.Prelude.{◌-◌, ◌^◌, ◌<◌, [], ◌∷◌};
 ghost use Rattle.archive_forms_laws.specs.Fields.{tuple3_spelling};
-ghost use Rattle.archive_forms_laws.specs.Serializing.{CanResolve, HasState, Resolves, Serializes};
+ghost use Rattle.archive_forms_laws.specs.Serializing.{HasState};
 ghost use Rattle.archive_forms_laws.proofs.Fields.{tuple3_spells};
 ghost use Rattle.archive_forms_laws.proofs.Views.{known_spells};
 ghost use Rattle.archive_forms_writing.specs.Steps.{StepTakes, StepWrites};
+ghost use Rattle.archive_forms_writing.specs.Calls.Resolving.{CanResolveTuple3, ResolvesTuple3};
+ghost use Rattle.archive_forms_writing.specs.Calls.Data.{WritesData};
 
 use crate::{Archive, Serialize, resolve_field};
 use archive_forms_values::ArchivedTuple3;
@@ -24,8 +25,8 @@ impl<A: Archive, B: Archive, C: Archive> Archive for (A, B, C) {
         resolver: (A::Resolver, B::Resolver, C::Resolver),
         out: Place<'_, ArchivedTuple3<A::Archived, B::Archived, C::Archived>>,
     ) -> Result<(), Error>
-        requires { CanResolve (tuple3_spelling A.Archived.shape A.spelling B.Archived.shape B.spelling C.Archived.shape C.spelling) (tuple3 A.Archived.shape B.Archived.shape C.Archived.shape) self.now resolver out.out.now out.start out.pos }
-        ensures { Resolves (tuple3_spelling A.Archived.shape A.spelling B.Archived.shape B.spelling C.Archived.shape C.spelling) (tuple3 A.Archived.shape B.Archived.shape C.Archived.shape) self.now resolver out.entry.pos out.entry.start out.entry.out.now out.exit.0.now result }
+        requires { CanResolveTuple3 A.Archived.shape A.spelling B.Archived.shape B.spelling C.Archived.shape C.spelling self.now resolver out }
+        ensures { ResolvesTuple3 A.Archived.shape A.spelling B.Archived.shape B.spelling C.Archived.shape C.spelling self.now resolver out.entry out.exit result }
     {
         let Place {
             out,
@@ -77,7 +78,7 @@ pub fn serialize_tuple3_each<
     requires writes_second { StepWrites G.Fn (λ q. q.0) B.spelling S.Writer second }
     requires takes_third { StepTakes H.Fn S.Writer third (tuple.now.2 ∷ []) }
     requires writes_third { StepWrites H.Fn (λ q. q.0) C.spelling S.Writer third }
-    ensures { Serializes (tuple3_spelling A.Archived.shape A.spelling B.Archived.shape B.spelling C.Archived.shape C.spelling) S.Writer tuple.now serializer.old serializer.new result }
+    ensures { WritesData ⟦<(A, B, C) as Archive>⟧ S.Writer tuple.now serializer.old serializer.new result }
 {
     let a = match first(&tuple.0, serializer) {
         Ok(done) => done.0,

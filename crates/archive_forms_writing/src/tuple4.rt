@@ -1,11 +1,12 @@
 //! The archiving of tuples of four fields.
-ghost use Rattle.std.specs.Prelude.{◌≡◌, ℕ, ◌+◌, ◌-◌, ◌^◌, ◌<◌, ◌≤◌, [], ◌∷◌};
-ghost use Rattle.archive_forms_values.specs.Tuples.{tuple4};
+ghost use Rattle.std.specs.Prelude.{◌-◌, ◌^◌, ◌<◌, [], ◌∷◌};
 ghost use Rattle.archive_forms_laws.specs.Fields.{tuple4_spelling};
-ghost use Rattle.archive_forms_laws.specs.Serializing.{CanResolve, HasState, Resolves, Serializes};
+ghost use Rattle.archive_forms_laws.specs.Serializing.{HasState};
 ghost use Rattle.archive_forms_laws.proofs.Fields.{tuple4_spells};
 ghost use Rattle.archive_forms_laws.proofs.Views.{known_spells};
 ghost use Rattle.archive_forms_writing.specs.Steps.{StepTakes, StepWrites};
+ghost use Rattle.archive_forms_writing.specs.Calls.Resolving.{CanResolveTuple4, ResolvesTuple4};
+ghost use Rattle.archive_forms_writing.specs.Calls.Data.{WritesData};
 
 use crate::{Archive, Serialize, resolve_field};
 use archive_forms_values::ArchivedTuple4;
@@ -24,8 +25,8 @@ impl<A: Archive, B: Archive, C: Archive, D: Archive> Archive for (A, B, C, D) {
         resolver: (A::Resolver, B::Resolver, C::Resolver, D::Resolver),
         out: Place<'_, ArchivedTuple4<A::Archived, B::Archived, C::Archived, D::Archived>>,
     ) -> Result<(), Error>
-        requires { CanResolve (tuple4_spelling A.Archived.shape A.spelling B.Archived.shape B.spelling C.Archived.shape C.spelling D.Archived.shape D.spelling) (tuple4 A.Archived.shape B.Archived.shape C.Archived.shape D.Archived.shape) self.now resolver out.out.now out.start out.pos }
-        ensures { Resolves (tuple4_spelling A.Archived.shape A.spelling B.Archived.shape B.spelling C.Archived.shape C.spelling D.Archived.shape D.spelling) (tuple4 A.Archived.shape B.Archived.shape C.Archived.shape D.Archived.shape) self.now resolver out.entry.pos out.entry.start out.entry.out.now out.exit.0.now result }
+        requires { CanResolveTuple4 A.Archived.shape A.spelling B.Archived.shape B.spelling C.Archived.shape C.spelling D.Archived.shape D.spelling self.now resolver out }
+        ensures { ResolvesTuple4 A.Archived.shape A.spelling B.Archived.shape B.spelling C.Archived.shape C.spelling D.Archived.shape D.spelling self.now resolver out.entry out.exit result }
     {
         let Place {
             out,
@@ -87,7 +88,7 @@ pub fn serialize_tuple4_each<
     requires writes_third { StepWrites H.Fn (λ q. q.0) C.spelling S.Writer third }
     requires takes_fourth { StepTakes I.Fn S.Writer fourth (tuple.now.3 ∷ []) }
     requires writes_fourth { StepWrites I.Fn (λ q. q.0) D.spelling S.Writer fourth }
-    ensures { Serializes (tuple4_spelling A.Archived.shape A.spelling B.Archived.shape B.spelling C.Archived.shape C.spelling D.Archived.shape D.spelling) S.Writer tuple.now serializer.old serializer.new result }
+    ensures { WritesData ⟦<(A, B, C, D) as Archive>⟧ S.Writer tuple.now serializer.old serializer.new result }
 {
     let a = match first(&tuple.0, serializer) {
         Ok(done) => done.0,

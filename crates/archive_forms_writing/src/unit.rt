@@ -1,9 +1,9 @@
 //! The archiving of values that have no bytes.
-ghost use Rattle.archive_shape.specs.ShapeLayout.Shape.Shape.{tuple};
-ghost use Rattle.archive_shape.specs.ShapeLayout.Shape.Shapes.{no_shapes};
+ghost use Rattle.archive_shape_layout.specs.Shape.Shape.{tuple};
+ghost use Rattle.archive_shape_layout.specs.Shape.Shapes.{no_shapes};
 ghost use Rattle.archive_forms_laws.specs.Fields.{unit_spelling};
-ghost use Rattle.archive_forms_laws.specs.Serializing.{CanResolve, Resolves};
 ghost use Rattle.archive_forms_laws.proofs.Fields.{unit_spells};
+ghost use Rattle.archive_forms_laws.specs.Serializing.{CanResolveAt, ResolvesAt};
 
 use crate::{Archive, Serialize};
 use archive_shape::{Allocator, Error, Place, Writer};
@@ -17,10 +17,8 @@ impl Archive for () {
     ghost spelling = { unit_spelling };
 
     fn resolve(&self, _resolver: (), out: Place<'_, ()>) -> Result<(), Error>
-        requires { CanResolve unit_spelling (tuple no_shapes) self.now tt out.out.now
-            out.start out.pos }
-        ensures { Resolves unit_spelling (tuple no_shapes) self.now tt out.entry.pos out.entry.start
-            out.entry.out.now out.exit.0.now result }
+        requires { CanResolveAt unit_spelling (tuple no_shapes) self.now tt out }
+        ensures { ResolvesAt unit_spelling (tuple no_shapes) self.now tt out.entry out.exit result }
     {
         let Place { .. } = out;
         Ok(())
@@ -43,10 +41,8 @@ impl<T> Archive for PhantomData<T> {
     ghost spelling = { unit_spelling };
 
     fn resolve(&self, _resolver: (), out: Place<'_, PhantomData<T>>) -> Result<(), Error>
-        requires { CanResolve unit_spelling (tuple no_shapes) self.now tt out.out.now
-            out.start out.pos }
-        ensures { Resolves unit_spelling (tuple no_shapes) self.now tt out.entry.pos out.entry.start
-            out.entry.out.now out.exit.0.now result }
+        requires { CanResolveAt unit_spelling (tuple no_shapes) self.now tt out }
+        ensures { ResolvesAt unit_spelling (tuple no_shapes) self.now tt out.entry out.exit result }
     {
         let Place { .. } = out;
         Ok(())

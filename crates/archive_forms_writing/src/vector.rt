@@ -1,12 +1,14 @@
 //! The archiving of vectors.
-ghost use Rattle.std.specs.Prelude.{◌≡◌, ℕ, ◌-◌, ◌^◌, ◌<◌, refl};
-ghost use Rattle.archive_shape.specs.ShapeLayout.Shape.Shape.{vector};
+ghost use Rattle.std.specs.Prelude.{◌-◌, ◌^◌, ◌<◌, refl};
+ghost use Rattle.archive_shape_layout.specs.Shape.Shape.{vector};
 ghost use Rattle.archive_forms_laws.specs.Pointers.{slice_spelling};
-ghost use Rattle.archive_forms_laws.specs.Serializing.{CanResolve, HasState, Resolves, Serializes, SerializesBy};
+ghost use Rattle.archive_forms_laws.specs.Serializing.{HasState, SerializesBy};
 ghost use Rattle.archive_forms_laws.proofs.Pointers.{slice_spells};
 ghost use Rattle.archive_forms_laws.proofs.Views.{kept_spells, seen_spells};
 ghost use Rattle.archive_forms_writing.specs.Owned.{vec_spelling};
 ghost use Rattle.archive_forms_writing.specs.Steps.{StepTakes, StepWrites};
+ghost use Rattle.archive_forms_writing.specs.Calls.Resolving.{CanResolveVec, ResolvesVec};
+ghost use Rattle.archive_forms_writing.specs.Calls.Data.{WritesData};
 
 use crate::{Archive, Serialize, serialize_element, serialize_slice_each};
 use archive_forms_values::{ArchivedVec, VecResolver};
@@ -25,10 +27,8 @@ impl<T: Archive> Archive for Vec<T> {
         resolver: VecResolver,
         out: Place<'_, ArchivedVec<T::Archived>>,
     ) -> Result<(), Error>
-        requires { CanResolve (vec_spelling T.Archived.shape T.spelling) (vector T.Archived.shape)
-            self.now resolver out.out.now out.start out.pos }
-        ensures { Resolves (vec_spelling T.Archived.shape T.spelling) (vector T.Archived.shape) self.now
-            resolver out.entry.pos out.entry.start out.entry.out.now out.exit.0.now result }
+        requires { CanResolveVec T.Archived.shape T.spelling self.now resolver out }
+        ensures { ResolvesVec T.Archived.shape T.spelling self.now resolver out.entry out.exit result }
     {
         let Place {
             out,
@@ -58,8 +58,7 @@ pub fn serialize_vec_each<
     requires state { HasState S.pos S.known serializer.old }
     requires takes { StepTakes F.Fn S.Writer step items.now.items }
     requires writes { StepWrites F.Fn (λ q. q.0) T.spelling S.Writer step }
-    ensures { Serializes (vec_spelling T.Archived.shape T.spelling) S.Writer items.now
-        serializer.old serializer.new result }
+    ensures { WritesData ⟦<Vec<T> as Archive>⟧ S.Writer items.now serializer.old serializer.new result }
 {
     match serialize_slice_each(items.as_slice(), serializer, step) {
         Ok(pos) => Ok(VecResolver { pos }),

@@ -10,14 +10,14 @@ use Rattle.std.proofs.lemmas.Bool.{cases_Bool, cases_lt}
 use Rattle.std.proofs.lemmas.List.{length-map, get_or-map}
 use Rattle.std.proofs.lemmas.List.Elements.{All-nil, All-cons}
 use Rattle.std.proofs.lemmas.List.Sorted.{IsPermutation-refl}
-use Rattle.archive_shape.specs.ShapeLayout.Shape.{Shape}
-use Rattle.archive_shape.specs.ShapeLayout.Shape.Shape.{table}
-use Rattle.archive_shape.specs.ShapeLayout.Shape.Shapes.{no_shapes}
-use Rattle.archive_shape.specs.ShapeLayout.Value.{Value, Values}
-use Rattle.archive_shape.specs.ShapeLayout.Value.Value.{group}
-use Rattle.archive_shape.specs.ShapeLayout.Value.Values.{no_values, more_values}
-use Rattle.archive_shape.specs.ShapeLayout.Content.{Names}
-use Rattle.archive_shape.specs.ShapeLayout.Holds.{root_position}
+use Rattle.archive_shape_layout.specs.Shape.{Shape}
+use Rattle.archive_shape_layout.specs.Shape.Shape.{table}
+use Rattle.archive_shape_layout.specs.Shape.Shapes.{no_shapes}
+use Rattle.archive_shape_layout.specs.Value.{Value, Values}
+use Rattle.archive_shape_layout.specs.Value.Value.{group}
+use Rattle.archive_shape_layout.specs.Value.Values.{no_values, more_values}
+use Rattle.archive_shape_layout.specs.Content.{Names}
+use Rattle.archive_shape_layout.specs.Holds.{root_position}
 use Rattle.archive_shape.specs.Key.{HeldAt}
 use Rattle.archive_forms_values.specs.Tuples.{tuple2}
 use Rattle.archive_forms_values.specs.Fields.{field, field_position}
@@ -27,9 +27,9 @@ use Rattle.archive_forms_values.proofs.Rooted.{root_held}
 use Rattle.archive_forms_laws.specs.State.{State}
 use Rattle.archive_forms_laws.specs.Spelling.{Spelling, state_after}
 use Rattle.archive_forms_laws.specs.Fields.{tuple2_spelling}
-use Rattle.archive_hash_probing.specs.ShapeCanonical.FirstFit.{hash_tag, written_controls}
-use Rattle.archive_hash_probing.specs.ShapeCanonical.Reach.{Reaches, searched}
-use Rattle.archive_hash_probing.specs.ShapeCanonical.Strides.{strides}
+use Rattle.archive_shape_canonical.specs.FirstFit.{hash_tag, written_controls}
+use Rattle.archive_shape_canonical.specs.Reach.{Reaches, searched}
+use Rattle.archive_shape_canonical.specs.Strides.{strides}
 use Rattle.archive_hash_probing.specs.Inputs.{input_hash}
 use Rattle.archive_hash_probing.specs.Search.{IsAnswer, IsLookup}
 use Rattle.archive_hash_probing.proofs.Counts.{none_accepted}
@@ -39,11 +39,11 @@ use Rattle.archive_hash_probing.proofs.Fit.{IsFirstFit}
 use Rattle.archive_hash_probing.proofs.Reached.{written_reaches, written_tag}
 use Rattle.archive_hash_probing.proofs.Small.{input_hash_small}
 use Rattle.archive_hash_probing.proofs.Walks.{answer_as}
-use Rattle.archive_hash_walking.specs.Tables.{no_buckets, item_position, item_positions}
-use Rattle.archive_hash_walking.specs.Places.{LooksUp}
-use Rattle.archive_hash_walking.specs.Places.LooksUp.{has_no_places, has_places}
-use Rattle.archive_hash_walking.specs.Maps.{KeySays, HasKey}
-use Rattle.archive_hash_walking.proofs.Found.{none_looked_up}
+use Rattle.archive_hash_maps.specs.Tables.{no_buckets, item_position, item_positions}
+use Rattle.archive_hash_maps.specs.Places.{LooksUp}
+use Rattle.archive_hash_maps.specs.Places.LooksUp.{has_no_places, has_places}
+use Rattle.archive_hash_maps.specs.Maps.{KeySays, HasKey}
+use Rattle.archive_hash_maps.proofs.Found.{none_looked_up}
 use Rattle.archive_hash_writing.specs.Fitted.{capacity_of, places_of, by_place, controls_of}
 use Rattle.archive_hash_writing.proofs.SpellingFitting.{above, are_apart, by_place_moved, length-places, places_fit}
 use Rattle.archive_hash_writing.proofs.WrittenItems.{HasItem, IsFilledTable, filled_table, empty_table}

@@ -5,19 +5,19 @@ use Rattle.std.specs.Map.Iter.{deref_pair}
 use Rattle.std.specs.Option.{option_map}
 use Rattle.std.proofs.lemmas.List.{length-map, get_or-map}
 use denote.Bor.{Bor}
-use Rattle.archive_shape.specs.ShapeLayout.Shape.{Shape}
-use Rattle.archive_shape_writing.specs.Writing.{WriterMembers}
-use Rattle.archive_shape_writing.specs.declared.error.Error.{Error}
-use Rattle.archive_shape_writing.specs.declared.error.Error.TheVariants.{IteratorLengthMismatch}
+use Rattle.archive_shape_layout.specs.Shape.{Shape}
+use Rattle.archive_shape_layout.specs.Writing.{WriterMembers}
+use Rattle.archive_shape_layout.specs.declared.error.Error.{Error}
+use Rattle.archive_shape_layout.specs.declared.error.Error.TheVariants.{IteratorLengthMismatch}
 use Rattle.archive_forms_values.specs.Tuples.{tuple2}
 use Rattle.archive_forms_laws.specs.Spelling.{Spelling}
 use Rattle.archive_forms_laws.specs.Forms.{seen_as}
 use Rattle.archive_forms_laws.specs.Fields.{tuple2_spelling}
 use Rattle.archive_forms_laws.specs.Taking.{GivesAs}
 use Rattle.archive_forms_laws.proofs.Agreeing.{Said, said, serializes_alike}
-use Rattle.archive_forms_borrowed.specs.declared.collections.entry.EntryAdapter.{EntryAdapter}
-use Rattle.archive_forms_borrowed.specs.declared.collections.entry.EntryResolver.{EntryResolver}
-use Rattle.archive_forms_borrowed.specs.Entries.{entry_spelling}
+use Rattle.archive_forms_writing.specs.declared.collections.entry.EntryAdapter.{EntryAdapter}
+use Rattle.archive_forms_writing.specs.declared.collections.entry.EntryResolver.{EntryResolver}
+use Rattle.archive_forms_writing.specs.Entries.{entry_spelling}
 use Rattle.archive_forms_writing.specs.Steps.{IsElement}
 use Rattle.archive_hash_maps.specs.declared.map.resolving.HashTableResolver.{HashTableResolver}
 use Rattle.archive_hash_writing.specs.Claimed.{AreHashesOf, WritesClaimed, WritesHashed, WritesTable, written_spelling}

@@ -6,20 +6,20 @@ use Rattle.std.specs.Prelude.{Bool, Option}
 use Rattle.std.specs.Cmp.{IsEquivalence}
 use Rattle.std.specs.List.{IsDistinct}
 use Rattle.std.specs.Map.{keys_of, lookup}
-use Rattle.archive_shape.specs.ShapeLayout.Bytes.{window, word_at}
-use Rattle.archive_shape.specs.ShapeLayout.Shape.{Shape}
-use Rattle.archive_shape.specs.ShapeLayout.Shape.Shape.{table}
-use Rattle.archive_shape.specs.ShapeLayout.Shape.Shapes.{no_shapes}
-use Rattle.archive_shape.specs.ShapeLayout.Value.{Value, Values}
-use Rattle.archive_shape.specs.ShapeLayout.Value.Value.{group}
-use Rattle.archive_shape.specs.ShapeLayout.Value.Values.{no_values, more_values}
-use Rattle.archive_shape.specs.ShapeLayout.Content.{Names, Content, content_of, members, choose, shape_content}
-use Rattle.archive_shape.specs.ShapeLayout.Content.Part.{at}
-use Rattle.archive_shape.specs.ShapeLayout.Content.Label.{whole}
-use Rattle.archive_shape.specs.ShapeLayout.Content.Content.{plain}
-use Rattle.archive_shape.proofs.ShapeLayout.Unique.{by_plain}
-use Rattle.archive_shape.proofs.ShapeLayout.Windows.{word_within}
-use Rattle.archive_hash_probing.specs.ShapeCanonical.Sharing.{erased, all_erased}
+use Rattle.archive_shape_layout.specs.Bytes.{window, word_at}
+use Rattle.archive_shape_layout.specs.Shape.{Shape}
+use Rattle.archive_shape_layout.specs.Shape.Shape.{table}
+use Rattle.archive_shape_layout.specs.Shape.Shapes.{no_shapes}
+use Rattle.archive_shape_layout.specs.Value.{Value, Values}
+use Rattle.archive_shape_layout.specs.Value.Value.{group}
+use Rattle.archive_shape_layout.specs.Value.Values.{no_values, more_values}
+use Rattle.archive_shape_layout.specs.Content.{Names, Content, content_of, members, choose, shape_content}
+use Rattle.archive_shape_layout.specs.Content.Part.{at}
+use Rattle.archive_shape_layout.specs.Content.Label.{whole}
+use Rattle.archive_shape_layout.specs.Content.Content.{plain}
+use Rattle.archive_shape_layout.proofs.Unique.{by_plain}
+use Rattle.archive_shape_layout.proofs.Windows.{word_within}
+use Rattle.archive_shape_canonical.specs.Sharing.{erased, all_erased}
 use Rattle.archive_shape.specs.declared.references.refs.Ref.{Ref}
 use Rattle.archive_shape.specs.Key.{HeldAt}
 use Rattle.archive_forms_values.specs.Tuples.{tuple2}
@@ -31,11 +31,11 @@ use Rattle.archive_forms_values.proofs.Held.{fields_at}
 use Rattle.archive_forms.proofs.Plain.{members_of_group}
 use Rattle.archive_forms.specs.Deserializing.{IsReadAt}
 use Rattle.archive_forms.specs.Reading.{reads_all, reads_each, reads_tuple2}
-use Rattle.archive_hash_maps.specs.HashWalking.Tables.{Buckets, IsTableAt, IsTableOf, AreItemsAt, item_position, item_positions, full_places}
-use Rattle.archive_hash_maps.specs.HashWalking.Maps.{entry_at}
-use Rattle.archive_hash_maps.proofs.HashWalking.Entries.{HasParts, entry_parts}
-use Rattle.archive_hash_maps.proofs.HashWalking.Read.{table_is_read, one_table}
-use Rattle.archive_hash_maps.proofs.HashWalking.Roots.{table_count}
+use Rattle.archive_hash_maps.specs.Tables.{Buckets, IsTableAt, IsTableOf, AreItemsAt, item_position, item_positions, full_places}
+use Rattle.archive_hash_maps.specs.Maps.{entry_at}
+use Rattle.archive_hash_maps.proofs.Entries.{HasParts, entry_parts}
+use Rattle.archive_hash_maps.proofs.Read.{table_is_read, one_table}
+use Rattle.archive_hash_maps.proofs.Roots.{table_count}
 use Rattle.archive_hash.specs.ReadBack.{AreInserted, reads_map}
 use Rattle.archive_hash.proofs.Inserted.{PutsKey, none_inserted, one_inserted}
 

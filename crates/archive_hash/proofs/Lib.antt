@@ -1,8 +1,5 @@
 pub mod Answering
 pub mod Given
-pub mod HashMaps
-pub mod HashWalking
-pub mod HashWriting
 mod Inserted
 pub mod Items
 pub mod Resolved

@@ -1,11 +1,11 @@
 -- The own bytes of a table of entries whose number is known.
 use Rattle.std.proofs.Common.{◌≡◌, ℕ, ◌^◌, ◌≤◌, List, length, refl, subst, inl, inr, ◌∙◌, ◌⊎◌, Result, Ok, Err, arith}
 use Rattle.std.specs.Prelude.{MatchResult}
-use Rattle.archive_shape.specs.ShapeLayout.Shape.{Shape, size_of}
+use Rattle.archive_shape_layout.specs.Shape.{Shape, size_of}
 use Rattle.archive_shape.specs.Bytes.{overwrite}
 use Rattle.archive_shape.proofs.Spared.{spares_same}
-use Rattle.archive_shape_writing.specs.declared.error.Error.{Error}
-use Rattle.archive_shape_writing.specs.declared.error.Error.TheVariants.{LengthTooLarge}
+use Rattle.archive_shape_layout.specs.declared.error.Error.{Error}
+use Rattle.archive_shape_layout.specs.declared.error.Error.TheVariants.{LengthTooLarge}
 use Rattle.archive_forms_laws.specs.Spelling.{Spelling}
 use Rattle.archive_forms_laws.specs.Serializing.{Resolves}
 use Rattle.archive_forms_laws.specs.Links.{LinkRefused}

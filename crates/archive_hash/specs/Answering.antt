@@ -5,25 +5,25 @@ use Rattle.std.specs.List.{AllZip, find}
 use Rattle.std.specs.List.Sorted.{IsPermutation}
 use Rattle.std.specs.Ordering.{is_eq}
 use Rattle.std.specs.declared.cmp.Ordering.{Ordering}
-use Rattle.archive_shape.specs.ShapeLayout.Shape.{Shape}
-use Rattle.archive_shape.specs.ShapeLayout.Shape.Shape.{table}
-use Rattle.archive_shape.specs.ShapeLayout.Shape.Shapes.{no_shapes}
-use Rattle.archive_shape.specs.ShapeLayout.Content.{Names}
-use Rattle.archive_shape.specs.ShapeLayout.Holds.{Region, Visit, root_position}
+use Rattle.archive_shape_layout.specs.Shape.{Shape}
+use Rattle.archive_shape_layout.specs.Shape.Shape.{table}
+use Rattle.archive_shape_layout.specs.Shape.Shapes.{no_shapes}
+use Rattle.archive_shape_layout.specs.Content.{Names}
+use Rattle.archive_shape_layout.specs.Holds.{Region, Visit, root_position}
 use Rattle.archive_shape.specs.Key.{HeldAt}
 use Rattle.archive_forms_values.specs.Tuples.{tuple2}
 use Rattle.archive_forms_values.specs.Fields.{field_position}
 use Rattle.archive_forms_values.specs.Parts.{both}
-use Rattle.archive_forms_laws.specs.ShapeCanonical.Settled.{Fit}
-use Rattle.archive_forms_laws.specs.ShapeCanonical.Sharing.{erased}
-use Rattle.archive_forms_laws.specs.ShapeCanonical.Canonical.{CanonicalArchive}
+use Rattle.archive_shape_canonical.specs.Settled.{Fit}
+use Rattle.archive_shape_canonical.specs.Sharing.{erased}
+use Rattle.archive_shape_canonical.specs.Canonical.{CanonicalArchive}
 use Rattle.archive_forms_laws.specs.State.{State, Keys}
 use Rattle.archive_forms_laws.specs.Spelling.{Spelling, state_after}
 use Rattle.archive_forms_laws.specs.Fields.{tuple2_spelling}
 use Rattle.archive_hash_probing.specs.Inputs.{input_hash}
-use Rattle.archive_hash_walking.specs.Tables.{Buckets, IsTableAt, item_positions}
-use Rattle.archive_hash_walking.specs.Places.{LooksUp}
-use Rattle.archive_hash_walking.specs.Maps.{KeySays, HasKey}
+use Rattle.archive_hash_maps.specs.Tables.{Buckets, IsTableAt, item_positions}
+use Rattle.archive_hash_maps.specs.Places.{LooksUp}
+use Rattle.archive_hash_maps.specs.Maps.{KeySays, HasKey}
 use Rattle.archive_hash_writing.specs.Tables.{table_spelling}
 
 module _ {A B R P : Type 0} (k v : Shape) (knows others : Names → Type 0) (keys : Spelling A R) (vals : Spelling B P) (bytes : List ℕ) where

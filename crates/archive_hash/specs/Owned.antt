@@ -1,6 +1,6 @@
 -- How maps that own their entries are archived.
 use Rattle.std.specs.Prelude.{ℕ, List, map}
-use Rattle.archive_shape.specs.ShapeLayout.Shape.{Shape}
+use Rattle.archive_shape_layout.specs.Shape.{Shape}
 use Rattle.archive_forms_values.specs.Tuples.{tuple2}
 use Rattle.archive_forms_laws.specs.Spelling.{Spelling}
 use Rattle.archive_forms_laws.specs.Forms.{kept_as}

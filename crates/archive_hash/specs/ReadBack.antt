@@ -2,7 +2,7 @@
 use Rattle.std.specs.Prelude.{◌≡◌, Bool, List, Some, None, All}
 use Rattle.std.specs.List.{find, IsDistinct}
 use Rattle.std.specs.Map.{keys_of, lookup, update_all}
-use Rattle.archive_shape.specs.ShapeLayout.Value.{Value}
+use Rattle.archive_shape_layout.specs.Value.{Value}
 use Rattle.archive_forms.specs.Reading.{reads_all, reads_tuple2}
 
 -- pairs that are inserted one after the other become these entries, in some order: each key occurs once, and is the

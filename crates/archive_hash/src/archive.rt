@@ -1,6 +1,6 @@
 //! Archives maps of std as hash tables.
 ghost use Rattle.std.specs.Prelude.{◌≡◌, refl};
-ghost use Rattle.archive_shape.specs.ShapeLayout.Shape.Shape.{table};
+ghost use Rattle.archive_shape_layout.specs.Shape.Shape.{table};
 ghost use Rattle.archive_forms_values.specs.Tuples.{tuple2};
 ghost use Rattle.archive_forms_laws.specs.Fields.{tuple2_spelling};
 ghost use Rattle.archive_forms_laws.specs.Forms.{seen_as};

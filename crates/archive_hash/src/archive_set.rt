@@ -1,7 +1,7 @@
 //! Archives sets of std as hash tables.
 ghost use Rattle.std.specs.Prelude.{◌≡◌, refl};
-ghost use Rattle.archive_shape.specs.ShapeLayout.Shape.Shape.{tuple};
-ghost use Rattle.archive_shape.specs.ShapeLayout.Shape.Shapes.{no_shapes};
+ghost use Rattle.archive_shape_layout.specs.Shape.Shape.{tuple};
+ghost use Rattle.archive_shape_layout.specs.Shape.Shapes.{no_shapes};
 ghost use Rattle.archive_forms_values.specs.Tuples.{tuple2};
 ghost use Rattle.archive_forms_laws.specs.Fields.{tuple2_spelling, unit_spelling};
 ghost use Rattle.archive_forms_laws.specs.Forms.{seen_as};

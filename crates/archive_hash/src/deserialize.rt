@@ -1,13 +1,13 @@
 //! Reads archived maps back as maps of std.
 ghost use Rattle.std.specs.Prelude.{length, IfOk};
-ghost use Rattle.archive_shape.specs.ShapeLayout.Shape.Shape.{table};
+ghost use Rattle.archive_shape_layout.specs.Shape.Shape.{table};
 ghost use Rattle.archive_forms_values.specs.Tuples.{tuple2};
 ghost use Rattle.archive_forms_values.specs.Parts.{HasValue, both};
 ghost use Rattle.archive_forms.specs.Deserializing.{Deserializes, DeserializesBy};
 ghost use Rattle.archive_forms.specs.Keeping.{both_of};
 ghost use Rattle.archive_forms.specs.Steps.{StepTakes, StepReads};
 ghost use Rattle.archive_hash.specs.ReadBack.{reads_map};
-ghost use Rattle.archive_hash_walking.specs.Maps.{HasMap};
+ghost use Rattle.archive_hash_maps.specs.Maps.{HasMap};
 
 use crate::OwnedHashMap;
 use archive_forms::{Deserialize, Deserializer, ReadBack, deserialize_element};

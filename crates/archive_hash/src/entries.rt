@@ -3,16 +3,15 @@ ghost use Rattle.std.specs.Prelude.{◌≡◌, ◌-◌, ◌^◌, ◌<◌};
 ghost use Rattle.std.specs.Iterator.{Drains, IsFinite};
 ghost use Rattle.std.specs.Map.Iter.{deref_pair};
 ghost use Rattle.std.specs.Option.{option_map};
-ghost use Rattle.archive_forms_borrowed.specs.Entries.{entry_spelling};
+ghost use Rattle.archive_forms_writing.specs.Entries.{entry_spelling};
 ghost use Rattle.archive_forms_laws.specs.Serializing.{HasState, SerializesBy};
 ghost use Rattle.archive_forms_laws.specs.Taking.{GivesAs};
 ghost use Rattle.archive_hash_probing.specs.Inputs.{input_hash};
 ghost use Rattle.archive_hash.specs.Given.{TakesGiven, WritesEntries, entry_of, pair_of};
 
 use crate::entry_with::EntryWith;
-use archive_forms_borrowed::{EntryAdapter, EntryResolver, EntryStep};
 use archive_forms_values::Entry;
-use archive_forms_writing::{Archive, ArchiveWith};
+use archive_forms_writing::{Archive, ArchiveWith, EntryAdapter, EntryResolver, EntryStep};
 use archive_hash_maps::HashTableResolver;
 use archive_hash_probing::{Scan, hash_key};
 use archive_hash_writing::serialize_from_iter_scan_with_each;

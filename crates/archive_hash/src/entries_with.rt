@@ -9,8 +9,7 @@ ghost use Rattle.archive_hash.specs.Owned.{entries_spelling};
 
 use crate::entries::serialize_entries_scan_each;
 use crate::map::LOAD_FACTOR;
-use archive_forms_borrowed::{EntryParts, EntryStep};
-use archive_forms_writing::{Archive, ArchiveWith};
+use archive_forms_writing::{Archive, ArchiveWith, EntryParts, EntryStep};
 use archive_hash_maps::HashTableResolver;
 use archive_hash_probing::Group;
 use archive_shape::{Allocator, Error, Writer};

@@ -1,7 +1,7 @@
 //! What archives entries, whose values are archived by something else than `Archive`.
 ghost use Rattle.std.specs.Prelude.{◌≡◌, refl};
 ghost use Rattle.archive_forms_values.specs.Tuples.{tuple2};
-ghost use Rattle.archive_forms_borrowed.specs.Entries.{entry_spelling};
+ghost use Rattle.archive_forms_writing.specs.Entries.{entry_spelling};
 ghost use Rattle.archive_forms_laws.specs.Fields.{tuple2_spelling};
 ghost use Rattle.archive_forms_laws.specs.Forms.{seen_as};
 ghost use Rattle.archive_forms_laws.specs.Serializing.{CanResolve, Resolves};
@@ -10,9 +10,8 @@ ghost use Rattle.archive_forms_laws.proofs.Views.{kept_spells, known_spells, see
 ghost use Rattle.archive_hash_writing.specs.Beside.{beside_spelling};
 ghost use Rattle.archive_hash_writing.proofs.Beside.{beside_spells};
 
-use archive_forms_borrowed::{EntryAdapter, EntryResolver};
 use archive_forms_values::Entry;
-use archive_forms_writing::{Archive, ArchiveWith};
+use archive_forms_writing::{Archive, ArchiveWith, EntryAdapter, EntryResolver};
 use archive_shape::{Error, Place};
 
 /// A borrowed value beside what archives it. The two are archived as the value.

@@ -8,8 +8,7 @@ ghost use Rattle.archive_hash_probing.specs.Inputs.{input_hash};
 ghost use Rattle.archive_hash.specs.Given.{WritesEntries};
 
 use crate::entries::serialize_entries_scan_each;
-use archive_forms_borrowed::SerializeEntry;
-use archive_forms_writing::{ByArchive, Serialize};
+use archive_forms_writing::{ByArchive, Serialize, SerializeEntry};
 use archive_hash_maps::HashTableResolver;
 use archive_hash_probing::Group;
 use archive_shape::{Allocator, Error, Writer};

@@ -3,7 +3,7 @@ ghost use Rattle.std.specs.Prelude.{◌≡◌, refl};
 
 use archive_forms_values::ArchivedString;
 use archive_forms_writing::{Archive, KeyOf, NativeLeaf};
-use archive_hash_walking::HashedKey;
+use archive_hash_maps::walking::HashedKey;
 use archive_shape::LittleEndian;
 use std::hash::Hash;
 

@@ -2,18 +2,17 @@
 ghost use Rattle.std.specs.Prelude.{◌≡◌, ℕ, ◌-◌, ◌^◌, ◌<◌};
 ghost use Rattle.std.specs.Iterator.{Drains, IsFinite, IsFiniteIterable};
 ghost use Rattle.std.specs.Option.{option_map};
-ghost use Rattle.archive_shape.specs.ShapeLayout.Shape.Shape.{tuple};
-ghost use Rattle.archive_shape.specs.ShapeLayout.Shape.Shapes.{no_shapes};
-ghost use Rattle.archive_forms_borrowed.specs.Entries.{entry_spelling};
+ghost use Rattle.archive_shape_layout.specs.Shape.Shape.{tuple};
+ghost use Rattle.archive_shape_layout.specs.Shape.Shapes.{no_shapes};
+ghost use Rattle.archive_forms_writing.specs.Entries.{entry_spelling};
 ghost use Rattle.archive_forms_laws.specs.Fields.{unit_spelling};
 ghost use Rattle.archive_forms_laws.specs.Serializing.{HasState, SerializesBy};
 ghost use Rattle.archive_forms_laws.specs.Taking.{GivesAs};
 ghost use Rattle.archive_hash_probing.specs.Inputs.{input_hash};
 ghost use Rattle.archive_hash.specs.Given.{WritesEntries, key_entry};
 
-use archive_forms_borrowed::{EntryAdapter, EntryResolver};
 use archive_forms_values::Entry;
-use archive_forms_writing::{Serialize, serialize_element};
+use archive_forms_writing::{EntryAdapter, EntryResolver, Serialize, serialize_element};
 use archive_hash_maps::HashTableResolver;
 use archive_hash_probing::{Group, hash_key};
 use archive_hash_writing::serialize_from_iter_scan_each;

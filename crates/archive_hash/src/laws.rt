@@ -1,20 +1,20 @@
 //! The laws of all parts of `archive_hash`. Each is a function with an empty body, whose contract is the law.
 ghost use Rattle.std.specs.Prelude.{ℕ, List, length};
-ghost use Rattle.archive_shape.specs.ShapeLayout.Shape.Shape.{table};
-ghost use Rattle.archive_shape.specs.ShapeLayout.Holds.{root_position};
+ghost use Rattle.archive_shape_layout.specs.Shape.Shape.{table};
+ghost use Rattle.archive_shape_layout.specs.Holds.{root_position};
 ghost use Rattle.archive_forms_values.specs.Tuples.{tuple2};
-ghost use Rattle.archive_hash_walking.specs.Maps.{HashesTo};
+ghost use Rattle.archive_hash_maps.specs.Maps.{HashesTo};
 ghost use Rattle.archive_hash.specs.Answering.{IsWrittenMap, AnswersKeys};
 
 use crate::keys::HashedKeyOf;
 use archive_forms_writing::Archive;
 pub use archive_hash_maps::found_is_present;
+pub use archive_hash_maps::walking::{
+    items_descend, keys_stay, one_hash, one_table, table_is_read, table_stays,
+};
 use archive_hash_probing::FxHasher64;
 pub use archive_hash_probing::{
     counts_to_the_place, every_place_is_shown, few_strides, one_answer,
-};
-pub use archive_hash_walking::{
-    items_descend, keys_stay, one_hash, one_table, table_is_read, table_stays,
 };
 pub use archive_hash_writing::{each_is_filled, tables_are_written};
 use std::hash::{Hash, Hasher};

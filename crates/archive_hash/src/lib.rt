@@ -18,16 +18,23 @@ mod serialize;
 mod serialize_set;
 mod set;
 
-pub use archive_forms_borrowed::{EntryParts, EntryStep, SerializeEntry};
+pub use archive_forms_writing::{EntryParts, EntryStep, SerializeEntry};
+pub use archive_hash_maps::checking::check_table_each;
 pub use archive_hash_maps::map::Iter;
+pub use archive_hash_maps::set::Iter as SetIter;
+pub use archive_hash_maps::walking::{number_at, search_table, value_position};
 pub use archive_hash_maps::{
     ArchivedHashMap, ArchivedHashSet, ArchivedHashTable, HashMapResolver, HashSetResolver,
     HashTableResolver, HashedKey, InvalidLength, IterMut, Keys, RawIter, RawIterSeal, Values,
     ValuesMut, eq_hash_map, eq_hash_set,
 };
-pub use archive_hash_probing::FxHasher64;
-pub use archive_hash_walking::{number_at, search_table, value_position};
-pub use archive_hash_writing::{hash_items, serialize_hashed};
+pub use archive_hash_probing::{
+    Bitmask, FxHasher64, Group, Group1, Group8, Group16, MAX_GROUP_WIDTH, NonZeroWord, Scan, WIDTH,
+    Word, hash_value,
+};
+pub use archive_hash_writing::{
+    hash_items, serialize_from_iter, serialize_from_iter_scan, serialize_hashed,
+};
 pub use deserialize::deserialize_hash_map_each;
 pub use entries::Entries;
 pub use entries_with::serialize_entries_with_each;

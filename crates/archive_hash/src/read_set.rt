@@ -1,7 +1,7 @@
 //! Reads archived sets back as sets of std.
 ghost use Rattle.std.specs.Prelude.{length, IfOk, ⊤};
-ghost use Rattle.archive_shape.specs.ShapeLayout.Shape.Shape.{table, tuple};
-ghost use Rattle.archive_shape.specs.ShapeLayout.Shape.Shapes.{no_shapes};
+ghost use Rattle.archive_shape_layout.specs.Shape.Shape.{table, tuple};
+ghost use Rattle.archive_shape_layout.specs.Shape.Shapes.{no_shapes};
 ghost use Rattle.archive_forms_values.specs.Tuples.{tuple2};
 ghost use Rattle.archive_forms_laws.specs.Fields.{unit_spelling};
 ghost use Rattle.archive_forms_values.specs.Parts.{HasValue, both};

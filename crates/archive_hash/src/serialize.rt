@@ -9,8 +9,7 @@ ghost use Rattle.archive_hash.specs.Owned.{entries_spelling};
 
 use crate::entries::serialize_entries_scan_each;
 use crate::map::{LOAD_FACTOR, OwnedHashMap};
-use archive_forms_borrowed::{EntryStep, SerializeEntry};
-use archive_forms_writing::{Archive, ByArchive, Serialize};
+use archive_forms_writing::{Archive, ByArchive, EntryStep, Serialize, SerializeEntry};
 use archive_hash_maps::HashTableResolver;
 use archive_hash_probing::{Group, Scan};
 use archive_shape::{Allocator, Error, Writer};

@@ -9,15 +9,15 @@ use Rattle.archive_shape_layout.specs.Shape.Shape.{tuple}
 use Rattle.archive_shape_layout.specs.Shape.Shapes.{no_shapes}
 use Rattle.archive_shape_layout.specs.Content.{Names}
 use Rattle.archive_shape.specs.declared.references.refs.Ref.{Ref}
-use Rattle.archive_forms_values.specs.FormsLaws.Orders.{Equality, unit_equality}
+use Rattle.archive_forms_laws.specs.Orders.{Equality, unit_equality}
 use Rattle.archive_forms_comparing.specs.Compared.{OfBoth}
 use Rattle.archive_forms_values.specs.Parts.{HasValue}
 use Rattle.archive_forms_values.specs.Fields.{field_position}
-use Rattle.archive_hash_walking.specs.Tables.{Buckets, item_positions}
-use Rattle.archive_hash_walking.specs.Places.{FindsAccepted}
-use Rattle.archive_hash_walking.specs.Maps.{LooksUpKey, key_at, entry_at}
-use Rattle.archive_hash_walking.specs.Equal.{EqualSays, HasEqual}
-use Rattle.archive_hash_walking.proofs.Entries.{HasParts, entries_there}
+use Rattle.archive_hash_maps.specs.Tables.{Buckets, item_positions}
+use Rattle.archive_hash_maps.specs.Places.{FindsAccepted}
+use Rattle.archive_hash_maps.specs.Maps.{LooksUpKey, key_at, entry_at}
+use Rattle.archive_hash_maps.specs.Equal.{EqualSays, HasEqual}
+use Rattle.archive_hash_maps.proofs.Entries.{HasParts, entries_there}
 use Rattle.archive_hash_maps.proofs.Paired.{mapped}
 use Rattle.archive_hash_maps.specs.Sets.{HasSet, IsSetAt, kept_key}
 use Rattle.archive_hash_maps.specs.EqualKeys.{HasEqualKey}

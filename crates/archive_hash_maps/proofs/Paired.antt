@@ -9,9 +9,9 @@ use Rattle.archive_shape_layout.specs.Content.{Names}
 use Rattle.archive_forms_values.specs.Tuples.{tuple2}
 use Rattle.archive_forms_values.specs.Parts.{HasValue, both}
 use Rattle.archive_forms_values.proofs.Stands.{field_stands}
-use Rattle.archive_hash_walking.specs.Maps.{entry_at, pair_at}
-use Rattle.archive_hash_walking.proofs.Entries.{entry_parts}
-use Rattle.archive_hash_walking.proofs.Walked.{first_of}
+use Rattle.archive_hash_maps.specs.Maps.{entry_at, pair_at}
+use Rattle.archive_hash_maps.proofs.Entries.{entry_parts}
+use Rattle.archive_hash_maps.proofs.Walked.{first_of}
 
 pub mapped : {A B C : Type 0} (f : A → B) (g : B → C) (xs : List A) → map g (map f xs) ≡ map (λ x. g (f x)) xs
 mapped f g [] = refl

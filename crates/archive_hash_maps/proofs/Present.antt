@@ -5,19 +5,19 @@ use Rattle.std.specs.Option.{option_map, is_some}
 use Rattle.std.specs.Ordering.{is_eq}
 use Rattle.std.specs.declared.cmp.Ordering.{Ordering}
 use Rattle.archive_shape_layout.specs.Shape.{Shape}
-use Rattle.archive_hash_probing.specs.ShapeCanonical.FirstFit.{hash_tag}
+use Rattle.archive_shape_canonical.specs.FirstFit.{hash_tag}
 use Rattle.archive_forms_values.specs.Tuples.{tuple2}
-use Rattle.archive_hash_probing.specs.ShapeCanonical.Reach.{Reaches}
+use Rattle.archive_shape_canonical.specs.Reach.{Reaches}
 use Rattle.archive_hash_probing.specs.Controls.{AreControls}
 use Rattle.archive_hash_probing.specs.Search.{IsLookup}
 use Rattle.archive_hash_probing.proofs.Findable.{only_is_found}
 use Rattle.archive_hash_probing.proofs.Wrapping.{wraps_of, count_of}
-use Rattle.archive_hash_walking.specs.Tables.{Buckets, IsTableAt, item_position}
-use Rattle.archive_hash_walking.specs.Tables.IsTableAt.{has_none, has_buckets}
-use Rattle.archive_hash_walking.specs.Places.{LooksUp}
-use Rattle.archive_hash_walking.specs.Places.LooksUp.{has_no_places, has_places}
-use Rattle.archive_hash_walking.specs.Maps.{HasKey, KeySays, LooksUpKey}
-use Rattle.archive_hash_walking.proofs.Lookups.{none_reached, reaches_none}
+use Rattle.archive_hash_maps.specs.Tables.{Buckets, IsTableAt, item_position}
+use Rattle.archive_hash_maps.specs.Tables.IsTableAt.{has_none, has_buckets}
+use Rattle.archive_hash_maps.specs.Places.{LooksUp}
+use Rattle.archive_hash_maps.specs.Places.LooksUp.{has_no_places, has_places}
+use Rattle.archive_hash_maps.specs.Maps.{HasKey, KeySays, LooksUpKey}
+use Rattle.archive_hash_maps.proofs.Lookups.{none_reached, reaches_none}
 
 -- a search does not miss an item that it reaches, that has its tag, and that is not refused
 search_finds : (says : ℕ → Bool → Type 0) (controls : List ℕ) (cap hash place strides : ℕ) → 0 < cap → AreControls controls cap

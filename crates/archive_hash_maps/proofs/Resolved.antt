@@ -1,13 +1,13 @@
 -- What is written of a table, and what is rejected.
 use Rattle.std.proofs.Common.{◌≡◌, ◌∙◌, ◌⊎◌, ℕ, ◌+◌, ◌*◌, ◌/◌, ◌^◌, ◌≤◌, ◌==◌, max, Bool, true, false, cond, List, ◌++◌, length, Option, Result, Err, MatchResult, inl, inr, refl, ap, sym, subst, arith, eqb-true, length-append, append_assoc}
 use Rattle.std.specs.Int.{w32, to_le_bytes}
-use Rattle.archive_hash_probing.specs.ShapeCanonical.FirstFit.{capacity_for}
+use Rattle.archive_shape_canonical.specs.FirstFit.{capacity_for}
 use Rattle.archive_shape.specs.Bytes.{overwrite}
-use Rattle.archive_shape_writing.specs.declared.error.Error.{Error}
-use Rattle.archive_shape_writing.specs.declared.error.Error.TheVariants.{InvalidLoadFactor, LengthTooLarge}
+use Rattle.archive_shape_layout.specs.declared.error.Error.{Error}
+use Rattle.archive_shape_layout.specs.declared.error.Error.TheVariants.{InvalidLoadFactor, LengthTooLarge}
 use Rattle.archive_forms_values.proofs.Joined.{overwrites_joined}
-use Rattle.archive_forms_values.specs.FormsLaws.Links.{link_bytes}
-use Rattle.archive_forms_values.proofs.FormsLaws.Links.{length-link}
+use Rattle.archive_forms_laws.specs.Links.{link_bytes}
+use Rattle.archive_forms_laws.proofs.Links.{length-link}
 use Rattle.archive_hash_probing.specs.Loads.{IsLoadFactor}
 use Rattle.archive_hash_maps.specs.Resolving.{capacity, own_bytes, IsRefused}
 use Rattle.archive_hash_maps.specs.Resolving.IsRefused.{has_no_load, has_many_places}

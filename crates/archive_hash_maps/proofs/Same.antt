@@ -4,7 +4,7 @@ use Rattle.std.proofs.Common.{◌≡◌, ℕ, List, ◌∷◌, Option, Some, Non
 use Rattle.std.specs.Option.{option_map}
 use Rattle.archive_shape_layout.specs.Shape.{Shape}
 use Rattle.archive_shape.specs.declared.references.refs.Ref.{Ref}
-use Rattle.archive_hash_walking.specs.Maps.{value_at}
+use Rattle.archive_hash_maps.specs.Maps.{value_at}
 
 -- a value that is found is in the map's bytes
 pub found_in : {V : Type 0} (bytes : Bor (List ℕ)) (k v : Shape) (r : Ref V) (o : Option ℕ) → Some r ≡ option_map (value_at {V = V} bytes k v) o → r.bytes ≡ bytes

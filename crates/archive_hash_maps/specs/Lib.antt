@@ -1,5 +1,13 @@
+pub mod Buckets
+pub mod Calls
+pub mod Cursors
+pub mod Equal
 pub mod EqualKeys
-pub mod HashWalking
+pub mod Heads
+pub mod Maps
+pub mod Places
 pub mod Resolving
 pub mod Sets
 pub mod StdMaps
+pub mod Tables
+pub mod Walks

@@ -1,10 +1,10 @@
 -- The own bytes of a table that is written, and the errors of writing them.
 use Rattle.std.specs.Prelude.{ℕ, ◌^◌, ◌<◌, ◌≤◌, List, ◌++◌, Option}
 use Rattle.std.specs.Int.{w32, to_le_bytes}
-use Rattle.archive_hash_probing.specs.ShapeCanonical.FirstFit.{capacity_for}
-use Rattle.archive_shape_writing.specs.declared.error.Error.{Error}
-use Rattle.archive_shape_writing.specs.declared.error.Error.TheVariants.{InvalidLoadFactor, LengthTooLarge}
-use Rattle.archive_forms_values.specs.FormsLaws.Links.{link_bytes, LinkFits, LinkRefused}
+use Rattle.archive_shape_canonical.specs.FirstFit.{capacity_for}
+use Rattle.archive_shape_layout.specs.declared.error.Error.{Error}
+use Rattle.archive_shape_layout.specs.declared.error.Error.TheVariants.{InvalidLoadFactor, LengthTooLarge}
+use Rattle.archive_forms_laws.specs.Links.{link_bytes, LinkFits, LinkRefused}
 use Rattle.archive_hash_probing.specs.Loads.{IsLoadFactor}
 
 -- of a table of `len` items: `load_factor` is the largest part of its places that may be full, `to` the position of its

@@ -6,7 +6,7 @@ use Rattle.archive_shape_layout.specs.Shape.Shapes.{no_shapes}
 use Rattle.archive_shape_layout.specs.Content.{Names}
 use Rattle.archive_forms_values.specs.Tuples.{tuple2}
 use Rattle.archive_forms_values.specs.Parts.{HasValue, both}
-use Rattle.archive_hash_walking.specs.Tables.{Buckets, IsTableAt, IsTable, item_positions}
+use Rattle.archive_hash_maps.specs.Tables.{Buckets, IsTableAt, IsTable, item_positions}
 use Rattle.archive_shape.specs.declared.references.refs.Ref.{Ref}
 
 -- the layout of a key and a unit, which has the key's own bytes

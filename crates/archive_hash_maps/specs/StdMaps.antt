@@ -6,8 +6,8 @@ use Rattle.archive_shape_layout.specs.Shape.{Shape}
 use Rattle.archive_shape_layout.specs.Shape.Shape.{tuple}
 use Rattle.archive_shape_layout.specs.Shape.Shapes.{no_shapes}
 use Rattle.archive_forms_values.specs.Fields.{field_position}
-use Rattle.archive_hash_walking.specs.Tables.{Buckets}
-use Rattle.archive_hash_walking.specs.Maps.{KeySays, LooksUpKey}
+use Rattle.archive_hash_maps.specs.Tables.{Buckets}
+use Rattle.archive_hash_maps.specs.Maps.{KeySays, LooksUpKey}
 
 -- the Boolean is whether the key of a pair has the pair's value: false where the key's look-up finds nothing, and
 -- otherwise whether the value that is found is the same

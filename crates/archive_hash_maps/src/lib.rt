@@ -1,8 +1,10 @@
 //! Archived hash tables, maps and sets: how they are read, lent for writing, compared and printed.
 #![tactic(auto)]
 
+pub mod checking;
 pub mod map;
 pub mod set;
+pub mod walking;
 
 pub use map::{
     ArchivedHashMap, ArchivedHashTable, EntryAt, FullPlaces, HashMapResolver, HashTableResolver,

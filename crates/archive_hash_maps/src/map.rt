@@ -15,7 +15,7 @@ mod seal;
 mod table;
 mod visit;
 
-pub use archive_hash_walking::{
+pub use crate::walking::{
     EntryAt, FullPlaces, HashedKey, IterMut, RawIter, RawIterSeal, ValuesMut, items_descend,
     keys_stay, one_hash, one_table, table_is_read, table_stays,
 };

@@ -15,7 +15,6 @@ pub mod MarkLemmas
 pub mod PlaceLemmas
 pub mod Powers
 pub mod Reached
-pub mod ShapeCanonical
 pub mod Small
 pub mod StopLemmas
 pub mod StrideLemmas

@@ -1,8 +1,8 @@
 -- A table's controls, as the layout tests them: those from the capacity on repeat those before, and the rest are empty.
 use Rattle.std.proofs.Common.{◌≡◌, ℕ, zero, suc, ◌+◌, ◌-◌, ◌*◌, ◌<◌, Bool, true, false, cond, ◌&&◌, ◌||◌, List, [], ◌∷◌, length, get_or, eqb, ltb, leb, refl, sym, ap, subst, ◌∙◌, arith, true≢false, eqb-true, eq-eqb, leb-true, le-leb, lt-ltb, le-ltb, inl, inr, ◌≤◌}
 use Rattle.std.proofs.lemmas.Bool.{cases_lt}
-use Rattle.archive_shape_canonical.specs.ShapeLayout.Content.{control_count, wraps}
-use Rattle.archive_shape_canonical.specs.ShapeLayout.Bytes.{align_up}
+use Rattle.archive_shape_layout.specs.Content.{control_count, wraps}
+use Rattle.archive_shape_layout.specs.Bytes.{align_up}
 use Rattle.archive_shape_canonical.specs.Strides.{sixteens}
 use Rattle.archive_hash_probing.specs.Controls.{AreControls}
 use Rattle.archive_hash_probing.proofs.Computed.{left_true, right_true}

@@ -1,6 +1,6 @@
 -- The controls of a table of `cap` places.
 use Rattle.std.specs.Prelude.{◌≡◌, ℕ, ◌+◌, true, cond, nat_lt, List, length, slice_set}
-use Rattle.archive_shape_canonical.specs.ShapeLayout.Content.{control_count, wraps}
+use Rattle.archive_shape_layout.specs.Content.{control_count, wraps}
 
 -- their number is that of the layout, and those from `cap` on are as in the layout
 pub record AreControls (controls : List ℕ) (cap : ℕ) : Type 0 where

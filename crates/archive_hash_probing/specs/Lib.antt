@@ -1,9 +1,9 @@
+pub mod Calls
 pub mod Controls
 pub mod Inputs
 pub mod Loads
 pub mod Marks
 pub mod Scanning
 pub mod Search
-pub mod ShapeCanonical
 pub mod Stops
 pub mod Words

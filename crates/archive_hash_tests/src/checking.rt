@@ -1,6 +1,6 @@
 //! Tests of checking hash tables: which are accepted and which are rejected.
 use archive_core_validation::ArchiveValidator;
-use archive_hash_checking::{
+use archive_hash_maps::checking::{
     TableHead, check_head, check_place_buckets, check_table_each, control_count, controls_at,
 };
 use archive_hash_maps::{ArchivedHashTable, InvalidLength};

@@ -1,6 +1,6 @@
 //! Tests of writing index maps and sets: the bytes of their data and their own bytes, and what is rejected.
 ghost use Rattle.std.specs.Prelude.{◌-◌, ◌^◌, ◌<◌};
-ghost use Rattle.archive_forms_values.specs.FormsLaws.Serializing.{HasState, SerializesBy};
+ghost use Rattle.archive_forms_laws.specs.Serializing.{HasState, SerializesBy};
 
 use crate::index_maps::{EXCHANGED, Keys, NOTHING, Numbers, TWO, TWO_KEYS};
 use crate::writing::{memory, text};
@@ -9,7 +9,7 @@ use archive_forms_writing::{ByArchive, Serialize, serialize_element};
 use archive_hash_maps::HashTableResolver;
 use archive_index::{
     ArchivedIndexMap, ArchivedIndexSet, IndexMapResolver, IndexSetResolver,
-    serialize_entries_with_each, serialize_map_from_iter, serialize_set_from_iter,
+    serialize_entries_with_each,
 };
 use archive_shape::{Allocator, Error, Place, Writer};
 use std::alloc::Global;
@@ -38,7 +38,7 @@ fn write_map<S: Writer + Allocator>(
     requires room { S.failures serializer.old < 2 ^ 64 - 1 }
     requires state { HasState S.pos S.known serializer.old }
 {
-    serialize_map_from_iter(claimed, map.iter(), load_factor, serializer)
+    Numbers::serialize_from_iter(claimed, map.iter(), load_factor, serializer)
 }
 
 /// Returns the own bytes of a map of `len` entries behind its data.
@@ -103,7 +103,7 @@ fn write_keys<S: Writer + Allocator>(
     requires room { S.failures serializer.old < 2 ^ 64 - 1 }
     requires state { HasState S.pos S.known serializer.old }
 {
-    serialize_set_from_iter(claimed, keys.iter(), (7, 8), serializer)
+    Keys::serialize_from_iter(claimed, keys.iter(), (7, 8), serializer)
 }
 
 /// Returns copies of texts.

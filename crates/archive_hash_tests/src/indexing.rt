@@ -1,8 +1,9 @@
 //! Tests of checking index maps: which are accepted and which are rejected.
 use archive_core_validation::ArchiveValidator;
 use archive_forms_values::ArchivedTuple2;
-use archive_index::check_index_map_each;
-use archive_shape::{ArchivedNonZeroU32, ArchivedU32, CheckBytes, Error};
+use archive_hash_probing::FxHasher64;
+use archive_index::{ArchivedIndexMap, check_index_map_each};
+use archive_shape::{ArchivedNonZeroU32, ArchivedU32, CheckBytes, Error, Ref};
 use std::alloc::Global;
 
 /// The index map from 7 to 9: a table of the number 0 in the first of two places; a byte of padding; the pair; and the
@@ -25,6 +26,13 @@ fn accepts(alloc: Global, bytes: &[u8; 64]) -> Result<(), Error> {
         &mut context,
         |c: &mut ArchiveValidator, p: usize| Pair::check(alloc, bytes, p, c),
     )
+}
+
+/// Verifies the index map at the end of bytes.
+fn verifies(alloc: Global, bytes: &[u8; 64]) -> Result<(), Error> {
+    let map = Ref::<ArchivedIndexMap<ArchivedU32, ArchivedNonZeroU32, FxHasher64>>::new(bytes, 48);
+    let mut context = ArchiveValidator::new(alloc, bytes);
+    ArchivedIndexMap::verify(map, alloc, &mut context)
 }
 
 /// Returns the map's bytes with another value at a position.
@@ -51,6 +59,7 @@ fn index_maps_are_accepted_and_spoilt_ones_refused(rt: HostRuntime) {
     ];
     for (index, value, result) in rows {
         assert!(rt; accepts(rt.alloc(), &changed(index, value)) == result);
+        assert!(rt; verifies(rt.alloc(), &changed(index, value)) == result);
     }
     let mut empty = [0; 64];
     empty[56] = 9;

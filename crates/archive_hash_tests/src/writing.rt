@@ -1,7 +1,7 @@
 //! Tests of maps that are written as hash tables: their length, looking up and reading back their keys, rejected load
 //! factors and claims, and that every scan writes the same bytes.
 ghost use Rattle.std.specs.Prelude.{◌-◌, ◌^◌, ◌<◌};
-ghost use Rattle.archive_forms_values.specs.FormsLaws.Serializing.{HasState};
+ghost use Rattle.archive_forms_laws.specs.Serializing.{HasState};
 
 use crate::reading::root_of;
 use archive_core::collections::util::IteratorLengthMismatch;

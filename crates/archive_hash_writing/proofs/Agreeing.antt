@@ -1,9 +1,9 @@
 -- Spellings that say the same of each item of a table say the same of the table.
 use Rattle.std.proofs.Common.{◌≡◌, ℕ, zero, suc, ◌+◌, List, [], ◌∷◌, map, get_or, refl, sym, ap, ◌∙◌, arith}
-use Rattle.archive_shape.specs.ShapeLayout.Shape.{Shape}
-use Rattle.archive_forms_writing.specs.FormsLaws.Spelling.{Spelling}
-use Rattle.archive_forms_writing.specs.FormsLaws.Forms.{seen_as}
-use Rattle.archive_forms_writing.proofs.FormsLaws.Agreeing.{said, AgreeOn}
+use Rattle.archive_shape_layout.specs.Shape.{Shape}
+use Rattle.archive_forms_laws.specs.Spelling.{Spelling}
+use Rattle.archive_forms_laws.specs.Forms.{seen_as}
+use Rattle.archive_forms_laws.proofs.Agreeing.{said, AgreeOn}
 use Rattle.archive_hash_writing.specs.Tables.{hashed_spelling, table_spelling}
 use Rattle.archive_hash_writing.proofs.Seen.{hashed_seen}
 

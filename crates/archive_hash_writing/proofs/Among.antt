@@ -1,7 +1,7 @@
 -- The items at the places of a table are among its items.
 use Rattle.std.proofs.Common.{◌≡◌, ℕ, zero, suc, ◌<◌, List, [], ◌∷◌, length, map, get_or, cond, Bool, true, false, ◌==◌, refl, sym, ap, ◌∙◌, arith, Option, Some, None}
 use Rattle.std.specs.List.{range_with_len, cons_option}
-use Rattle.archive_hash_probing.specs.ShapeCanonical.FirstFit.{item_at, placed, present}
+use Rattle.archive_shape_canonical.specs.FirstFit.{item_at, placed, present}
 use Rattle.archive_forms_writing.specs.Steps.{IsElement}
 
 module _ {A : Type 0} where

@@ -1,9 +1,9 @@
 -- The law of a value that is archived by what stands beside it is the law of what archives it.
-use Rattle.archive_shape.specs.ShapeLayout.Shape.{Shape}
-use Rattle.archive_shape.specs.ShapeLayout.Content.{Names}
-use Rattle.archive_hash_probing.specs.ShapeCanonical.Settled.{Fit}
-use Rattle.archive_forms_writing.specs.FormsLaws.Spelling.{Spelling}
-use Rattle.archive_forms_writing.specs.FormsLaws.Spells.{Spells}
+use Rattle.archive_shape_layout.specs.Shape.{Shape}
+use Rattle.archive_shape_layout.specs.Content.{Names}
+use Rattle.archive_shape_canonical.specs.Settled.{Fit}
+use Rattle.archive_forms_laws.specs.Spelling.{Spelling}
+use Rattle.archive_forms_laws.specs.Spells.{Spells}
 use Rattle.archive_hash_writing.specs.Beside.{beside_spelling}
 
 pub beside_spells : {A B R : Type 0} (fit : Fit) (s : Shape) (knows : Names → Type 0) (by : A → Spelling B R) → ((a : A) → Spells fit s knows (by a)) → Spells fit s knows (beside_spelling by)

@@ -2,13 +2,13 @@
 use Rattle.std.proofs.Common.{◌≡◌, ℕ, suc, ◌+◌, ◌-◌, ◌*◌, List, [], ◌∷◌, ◌++◌, length, refl, sym, ap, subst, ◌∙◌, arith, Option, Some, None, append-nil, append_assoc, inl, inr}
 use Rattle.std.specs.Prelude.{⊤}
 use Rattle.std.proofs.lemmas.List.Elements.{filter_map-append}
-use Rattle.archive_shape.specs.ShapeLayout.Shape.{Shape, size_of}
+use Rattle.archive_shape_layout.specs.Shape.{Shape, size_of}
 use Rattle.archive_shape.specs.Bytes.{zeros}
-use Rattle.archive_hash_probing.specs.ShapeCanonical.FirstFit.{present}
-use Rattle.archive_shape_writing.specs.declared.error.Error.{Error}
-use Rattle.archive_forms_writing.specs.FormsLaws.State.{State}
-use Rattle.archive_forms_writing.specs.FormsLaws.Spelling.{Spelling, state_after}
-use Rattle.archive_forms_writing.specs.FormsLaws.Regions.{state_after_all, resolvers, placed_fits, placed_refused}
+use Rattle.archive_shape_canonical.specs.FirstFit.{present}
+use Rattle.archive_shape_layout.specs.declared.error.Error.{Error}
+use Rattle.archive_forms_laws.specs.State.{State}
+use Rattle.archive_forms_laws.specs.Spelling.{Spelling, state_after}
+use Rattle.archive_forms_laws.specs.Regions.{state_after_all, resolvers, placed_fits, placed_refused}
 use Rattle.archive_hash_writing.specs.Tables.{buckets, buckets_fit, buckets_refused, state_after_items}
 
 -- ---- the item there

@@ -2,15 +2,15 @@
 use Rattle.std.proofs.Common.{◌≡◌, ℕ, ◌+◌, ◌-◌, ◌*◌, ◌≤◌, ◌<◌, List, [], ◌∷◌, ◌++◌, refl, sym, ap, subst, ◌∙◌, arith, length, take, get_or, append-nil, append_assoc, inl, inr, Option, length-append, Ok, Err}
 use Rattle.std.specs.Prelude.{Result}
 use Rattle.std.proofs.lemmas.List.{length-take-le, take_all, take-take, take_at, get_or-take, get_or_at}
-use Rattle.archive_shape.specs.ShapeLayout.Shape.{Shape, size_of}
-use Rattle.archive_hash_probing.specs.ShapeCanonical.FirstFit.{present}
-use Rattle.archive_shape_writing.specs.Writing.{WriterMembers, Writes}
-use Rattle.archive_shape_writing.specs.declared.error.Error.{Error}
-use Rattle.archive_shape_writing.proofs.Joined.{written_none}
-use Rattle.archive_forms_writing.specs.FormsLaws.State.{State}
-use Rattle.archive_forms_writing.specs.FormsLaws.Spelling.{Spelling}
-use Rattle.archive_forms_writing.specs.FormsLaws.Regions.{resolvers}
-use Rattle.archive_forms_writing.specs.FormsLaws.Serializing.{Lays}
+use Rattle.archive_shape_layout.specs.Shape.{Shape, size_of}
+use Rattle.archive_shape_canonical.specs.FirstFit.{present}
+use Rattle.archive_shape_layout.specs.Writing.{WriterMembers, Writes}
+use Rattle.archive_shape_layout.specs.declared.error.Error.{Error}
+use Rattle.archive_shape_layout.proofs.Joined.{written_none}
+use Rattle.archive_forms_laws.specs.State.{State}
+use Rattle.archive_forms_laws.specs.Spelling.{Spelling}
+use Rattle.archive_forms_laws.specs.Regions.{resolvers}
+use Rattle.archive_forms_laws.specs.Serializing.{Lays}
 use Rattle.archive_forms_writing.proofs.Laying.{Wrote, Fails, Stops, wrote_both, stopped_after, stopped_first, stopped_before}
 use Rattle.archive_hash_writing.specs.Tables.{buckets, buckets_fit, buckets_refused, state_after_items}
 use Rattle.archive_hash_writing.proofs.EachBucket.{bucket, bucket_fits, bucket_refused, before, buckets_more, fits_more, refused_before, refused_there}

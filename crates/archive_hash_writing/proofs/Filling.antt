@@ -4,15 +4,15 @@ use Rattle.std.specs.Prelude.{Result}
 use denote.Bor.{Bor}
 use Rattle.std.proofs.Math.Seq.{take-add}
 use Rattle.std.proofs.lemmas.List.{length-take-le, take-replicate, drop-replicate, drop-drop, length-replicate, take-map, map_more}
-use Rattle.archive_shape.specs.ShapeLayout.Shape.{Shape, size_of}
+use Rattle.archive_shape_layout.specs.Shape.{Shape, size_of}
 use Rattle.archive_shape.specs.Bytes.{zeros, overwrite}
-use Rattle.archive_hash_probing.specs.ShapeCanonical.FirstFit.{present}
-use Rattle.archive_shape_writing.specs.Writing.{WriterMembers, Writes}
-use Rattle.archive_shape_writing.specs.declared.error.Error.{Error}
-use Rattle.archive_forms_writing.specs.FormsLaws.State.{State}
-use Rattle.archive_forms_writing.specs.FormsLaws.Spelling.{Spelling}
-use Rattle.archive_forms_writing.specs.FormsLaws.Regions.{resolvers, placed_fits, placed_refused}
-use Rattle.archive_forms_writing.specs.FormsLaws.Serializing.{CanResolve}
+use Rattle.archive_shape_canonical.specs.FirstFit.{present}
+use Rattle.archive_shape_layout.specs.Writing.{WriterMembers, Writes}
+use Rattle.archive_shape_layout.specs.declared.error.Error.{Error}
+use Rattle.archive_forms_laws.specs.State.{State}
+use Rattle.archive_forms_laws.specs.Spelling.{Spelling}
+use Rattle.archive_forms_laws.specs.Regions.{resolvers, placed_fits, placed_refused}
+use Rattle.archive_forms_laws.specs.Serializing.{CanResolve}
 use Rattle.archive_forms_writing.proofs.Laying.{Stops}
 use Rattle.archive_forms_writing.proofs.Batches.{take_written, blank_there, blank_behind}
 use Rattle.archive_hash_writing.specs.Tables.{buckets, buckets_refused, state_after_items}

@@ -2,16 +2,16 @@
 use Rattle.std.proofs.Common.{◌≡◌, ℕ, List, [], ◌∷◌, length, map, refl, sym, ap, ap₂, ◌∙◌, arith}
 use Rattle.std.specs.List.{AllByRecursion}
 use Rattle.std.proofs.lemmas.List.{length-map}
-use Rattle.archive_shape.specs.ShapeLayout.Shape.{Shape}
-use Rattle.archive_shape.specs.ShapeLayout.Value.{Value, count_values}
-use Rattle.archive_shape.specs.ShapeLayout.Value.Value.{string, group}
-use Rattle.archive_shape.specs.ShapeLayout.Value.Values.{no_values, more_values}
-use Rattle.archive_hash_probing.specs.ShapeCanonical.FirstFit.{ascending, controls_of, first_fit, fitted_from, items_of, keys_in, map_capacity, placed, placed_keys, present, text_key, written_controls}
-use Rattle.archive_hash_probing.specs.ShapeCanonical.Seen.{key_alone, keys_alone}
-use Rattle.archive_hash_probing.specs.ShapeCanonical.Settled.{Fit}
-use Rattle.archive_forms_writing.specs.FormsLaws.State.{Keys}
-use Rattle.archive_forms_writing.specs.FormsLaws.Spelling.{Spelling}
-use Rattle.archive_forms_writing.specs.FormsLaws.Regions.{plain_values, all_suit}
+use Rattle.archive_shape_layout.specs.Shape.{Shape}
+use Rattle.archive_shape_layout.specs.Value.{Value, count_values}
+use Rattle.archive_shape_layout.specs.Value.Value.{string, group}
+use Rattle.archive_shape_layout.specs.Value.Values.{no_values, more_values}
+use Rattle.archive_shape_canonical.specs.FirstFit.{ascending, controls_of, first_fit, fitted_from, items_of, keys_in, map_capacity, placed, placed_keys, present, text_key, written_controls}
+use Rattle.archive_shape_canonical.specs.Seen.{key_alone, keys_alone}
+use Rattle.archive_shape_canonical.specs.Settled.{Fit}
+use Rattle.archive_forms_laws.specs.State.{Keys}
+use Rattle.archive_forms_laws.specs.Spelling.{Spelling}
+use Rattle.archive_forms_laws.specs.Regions.{plain_values, all_suit}
 use Rattle.archive_hash_writing.specs.Fitted.{by_place}
 use Rattle.archive_hash_writing.specs.Tables.{IsFilledBy}
 use Rattle.archive_hash_writing.proofs.SpellingFitting.{length-by_place}

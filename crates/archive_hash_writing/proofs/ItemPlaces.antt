@@ -3,8 +3,8 @@ use Rattle.std.proofs.Common.{◌≡◌, ℕ, suc, ◌^◌, ◌<◌, ◌≤◌, 
 use Rattle.std.specs.List.{All}
 use Rattle.std.proofs.lemmas.List.{length-map, get_or-map}
 use Rattle.std.proofs.lemmas.List.Elements.{All-nil, All-cons}
-use Rattle.archive_hash_probing.specs.ShapeCanonical.FirstFit.{controls_of, hash_tag, item_at, placed, places_of}
-use Rattle.archive_hash_probing.specs.ShapeCanonical.Reach.{Reaches}
+use Rattle.archive_shape_canonical.specs.FirstFit.{controls_of, hash_tag, item_at, placed, places_of}
+use Rattle.archive_shape_canonical.specs.Reach.{Reaches}
 use Rattle.archive_hash_probing.proofs.Fit.{IsFirstFit, first_fit}
 use Rattle.archive_hash_probing.proofs.Reached.{written_reaches, written_tag}
 use Rattle.archive_hash_writing.proofs.Tagged.{AreTagged, written_tagged}

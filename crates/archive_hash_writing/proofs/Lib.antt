@@ -6,6 +6,13 @@ pub mod Filled
 pub mod Filling
 pub mod FirstFitted
 pub mod Hashed
+pub mod IndexAgreeing
+pub mod IndexKept
+pub mod IndexMaps
+pub mod IndexNumbers
+pub mod IndexPlaces
+pub mod IndexSamples
+pub mod IndexSeen
 pub mod ItemPlaces
 pub mod Numbers
 pub mod Parting

@@ -1,21 +1,21 @@
 -- Tables of numbers are written as their one archive, where a fit fills them as they are written, and some fit does.
 use Rattle.std.proofs.Common.{ℕ, List, [], ◌∷◌, None, refl, map}
 use Rattle.std.specs.Int.{w32, to_le_bytes}
-use Rattle.archive_shape.specs.ShapeLayout.Value.Value.{natural}
-use Rattle.archive_hash_probing.specs.ShapeCanonical.Settled.{Fit}
-use Rattle.archive_forms_writing.specs.FormsLaws.State.{Keys, AreOneToOne}
-use Rattle.archive_forms_writing.specs.FormsLaws.Spells.{Spells}
-use Rattle.archive_forms_writing.specs.FormsLaws.Regions.{all_suit}
-use Rattle.archive_forms_writing.specs.FormsLaws.SpellingLaws.{KnowsAll}
-use Rattle.archive_forms_writing.proofs.FormsLaws.Leaves.{leaf_spells}
-use Rattle.archive_forms_writing.proofs.FormsLaws.Written.{is_written}
+use Rattle.archive_shape_layout.specs.Value.Value.{natural}
+use Rattle.archive_shape_canonical.specs.Settled.{Fit}
+use Rattle.archive_forms_laws.specs.State.{Keys, AreOneToOne}
+use Rattle.archive_forms_laws.specs.Spells.{Spells}
+use Rattle.archive_forms_laws.specs.Regions.{all_suit}
+use Rattle.archive_forms_laws.specs.SpellingLaws.{KnowsAll}
+use Rattle.archive_forms_laws.proofs.Leaves.{leaf_spells}
+use Rattle.archive_forms_laws.proofs.Written.{is_written}
 use Rattle.archive_hash_writing.specs.Fitted.{by_place, capacity_of, controls_of}
 use Rattle.archive_hash_writing.specs.Sample.{number_shape, sample_shape}
 use Rattle.archive_hash_writing.specs.Tables.{table_spelling}
 use Rattle.archive_hash_writing.specs.Laws.{TablesAreWritten, EachIsFilled}
 use Rattle.archive_hash_writing.proofs.SpellingTables.{table_spells}
-use Rattle.archive_forms_writing.proofs.FormsLaws.Samples.{number_spells, none_to_none}
-use Rattle.archive_forms_writing.specs.FormsLaws.Sample.{number_spelling}
+use Rattle.archive_forms_laws.proofs.Samples.{number_spells, none_to_none}
+use Rattle.archive_forms_laws.specs.Sample.{number_spelling}
 
 -- no shared value is in them
 abbrev no_keys : Keys

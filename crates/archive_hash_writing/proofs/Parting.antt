@@ -1,11 +1,11 @@
 -- What holds of each item of a table whose data fits, or is refused.
 use Rattle.std.proofs.Common.{◌≡◌, ℕ, ◌<◌, List, [], ◌∷◌, length, ◌⊎◌, inl, inr, ⊎_elim, arith}
 use Rattle.std.specs.List.{AllByRecursion}
-use Rattle.archive_shape.specs.ShapeLayout.Shape.{Shape}
-use Rattle.archive_shape_writing.specs.declared.error.Error.{Error}
-use Rattle.archive_forms_writing.specs.FormsLaws.State.{State}
-use Rattle.archive_forms_writing.specs.FormsLaws.Spelling.{Spelling, state_after}
-use Rattle.archive_forms_writing.specs.FormsLaws.Regions.{pieces_fit, pieces_refused}
+use Rattle.archive_shape_layout.specs.Shape.{Shape}
+use Rattle.archive_shape_layout.specs.declared.error.Error.{Error}
+use Rattle.archive_forms_laws.specs.State.{State}
+use Rattle.archive_forms_laws.specs.Spelling.{Spelling, state_after}
+use Rattle.archive_forms_laws.specs.Regions.{pieces_fit, pieces_refused}
 use Rattle.archive_hash_writing.specs.Fitted.{capacity_of, places_of, by_place}
 use Rattle.archive_hash_writing.specs.Tables.{table_fits, table_refused}
 use Rattle.archive_hash_writing.proofs.Placed.{placed_each, each_of_placed}

@@ -6,7 +6,7 @@ use Rattle.std.specs.List.{AllByRecursion, range_with_len, cons_option}
 use Rattle.std.specs.Option.{option_map}
 use Rattle.std.proofs.lemmas.List.Sorted.{IsPermutation-sym, All-permutation}
 use Rattle.std.proofs.lemmas.List.Elements.{All-from_recursion, recursion_from_All}
-use Rattle.archive_hash_probing.specs.ShapeCanonical.FirstFit.{ascending, item_at, placed, present}
+use Rattle.archive_shape_canonical.specs.FirstFit.{ascending, item_at, placed, present}
 use Rattle.archive_hash_writing.specs.Fitted.{by_place}
 use Rattle.archive_hash_writing.proofs.Sorted.{IsNew, ArePlaces, keys_placed}
 use Rattle.archive_hash_writing.proofs.SpellingFitting.{length-places, places_below, are_apart}

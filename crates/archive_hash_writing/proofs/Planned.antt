@@ -2,20 +2,20 @@
 use Rattle.std.proofs.Common.{◌≡◌, ℕ, ◌+◌, ◌-◌, ◌*◌, ◌≤◌, List, [], ◌∷◌, map, length, take, Option, Some, None, refl, sym, ap, ap₂, subst, ◌∙◌, arith}
 use Rattle.std.specs.List.{AllByRecursion}
 use Rattle.std.proofs.lemmas.List.{length-map}
-use Rattle.archive_shape.specs.ShapeLayout.Shape.{Shape, size_of, align_of}
-use Rattle.archive_shape.specs.ShapeLayout.Shape.Shape.{table}
-use Rattle.archive_shape.specs.ShapeLayout.Value.{Value, Values, count_values}
-use Rattle.archive_shape.specs.ShapeLayout.Value.Value.{group}
-use Rattle.archive_shape.specs.ShapeLayout.Value.Values.{no_values, more_values}
-use Rattle.archive_shape.specs.ShapeLayout.Content.{Names, Part, tagged_items, control_count}
-use Rattle.archive_shape.specs.ShapeLayout.Content.Item.{item}
-use Rattle.archive_shape.specs.ShapeLayout.Content.Part.{at}
-use Rattle.archive_hash_probing.specs.ShapeCanonical.FirstFit.{present}
-use Rattle.archive_hash_probing.specs.ShapeCanonical.Plan.{Target, Plan, parts, leads, Plans, no_plans, more_plans, HasPlan, plan_flat, plan_no_table, plan_table, HavePlans, plans_none, plans_at}
-use Rattle.archive_hash_probing.specs.ShapeCanonical.Seen.{keys_alone}
-use Rattle.archive_hash_probing.specs.ShapeCanonical.Settled.{Fit}
-use Rattle.archive_hash_probing.specs.ShapeCanonical.Sharing.{erased, all_erased}
-use Rattle.archive_forms_writing.specs.FormsLaws.Views.{listed}
+use Rattle.archive_shape_layout.specs.Shape.{Shape, size_of, align_of}
+use Rattle.archive_shape_layout.specs.Shape.Shape.{table}
+use Rattle.archive_shape_layout.specs.Value.{Value, Values, count_values}
+use Rattle.archive_shape_layout.specs.Value.Value.{group}
+use Rattle.archive_shape_layout.specs.Value.Values.{no_values, more_values}
+use Rattle.archive_shape_layout.specs.Content.{Names, Part, tagged_items, control_count}
+use Rattle.archive_shape_layout.specs.Content.Item.{item}
+use Rattle.archive_shape_layout.specs.Content.Part.{at}
+use Rattle.archive_shape_canonical.specs.FirstFit.{present}
+use Rattle.archive_shape_canonical.specs.Plan.{Target, Plan, parts, leads, Plans, no_plans, more_plans, HasPlan, plan_flat, plan_no_table, plan_table, HavePlans, plans_none, plans_at}
+use Rattle.archive_shape_canonical.specs.Seen.{keys_alone}
+use Rattle.archive_shape_canonical.specs.Settled.{Fit}
+use Rattle.archive_shape_canonical.specs.Sharing.{erased, all_erased}
+use Rattle.archive_forms_laws.specs.Views.{listed}
 use Rattle.archive_shape_canonical.proofs.Choosing.{erased_by_keys}
 use Rattle.archive_hash_writing.proofs.SpellingBuckets.{tagged_none, tagged_some}
 use Rattle.archive_hash_writing.proofs.SpellingFilled.{AreControlsOf}

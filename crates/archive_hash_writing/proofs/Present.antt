@@ -2,7 +2,7 @@
 use Rattle.std.proofs.Common.{◌≡◌, ℕ, ◌+◌, ◌<◌, ◌≤◌, List, [], ◌∷◌, length, drop, map, get_or, sym, ap, subst, ◌∙◌, arith, Option, Some, None, length-drop}
 use denote.Bor.{Bor}
 use Rattle.std.proofs.lemmas.List.{drop-drop, drop_more, drop_all, get_or-drop}
-use Rattle.archive_hash_probing.specs.ShapeCanonical.FirstFit.{present}
+use Rattle.archive_shape_canonical.specs.FirstFit.{present}
 use Rattle.archive_hash_writing.specs.Standing.{standing}
 
 -- ---- the rest of a list

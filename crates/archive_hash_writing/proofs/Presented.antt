@@ -1,13 +1,13 @@
 -- The data of the items at the places of a table, written by ascending place.
 use Rattle.std.proofs.Common.{◌≡◌, ℕ, ◌+◌, ◌<◌, ◌≤◌, List, [], ◌∷◌, ◌++◌, length, drop, get_or, refl, sym, ap, subst, ◌∙◌, Option, Some, None, length-append}
 use denote.Bor.{Bor}
-use Rattle.archive_shape_writing.specs.Writing.{WriterMembers}
-use Rattle.archive_shape_writing.specs.declared.error.Error.{Error}
-use Rattle.archive_shape_writing.specs.declared.error.Error.TheVariants.{OutOfMemory}
-use Rattle.archive_forms_writing.specs.FormsLaws.State.{State}
-use Rattle.archive_forms_writing.specs.FormsLaws.Spelling.{Spelling, state_after}
-use Rattle.archive_forms_writing.specs.FormsLaws.Regions.{pieces, pieces_refused}
-use Rattle.archive_forms_writing.specs.FormsLaws.Serializing.{of_data, IsAt}
+use Rattle.archive_shape_layout.specs.Writing.{WriterMembers}
+use Rattle.archive_shape_layout.specs.declared.error.Error.{Error}
+use Rattle.archive_shape_layout.specs.declared.error.Error.TheVariants.{OutOfMemory}
+use Rattle.archive_forms_laws.specs.State.{State}
+use Rattle.archive_forms_laws.specs.Spelling.{Spelling, state_after}
+use Rattle.archive_forms_laws.specs.Regions.{pieces, pieces_refused}
+use Rattle.archive_forms_laws.specs.Serializing.{of_data, IsAt}
 use Rattle.archive_forms_writing.proofs.Laying.{Wrote, Stops}
 use Rattle.archive_forms_writing.proofs.Loops.{Reached, ReachedAll, reached_none, reached_next, reached_stopped, reached_memory, reached_all}
 use Rattle.archive_hash_writing.proofs.Present.{items, items_from, passed_none, passed_item, passed_all, there, behind}

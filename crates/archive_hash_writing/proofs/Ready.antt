@@ -2,15 +2,15 @@
 use Rattle.std.proofs.Common.{◌≡◌, ℕ, min, ◌+◌, ◌-◌, ◌*◌, ◌≤◌, ◌<◌, ◌^◌, List, sym, ap, subst, ◌∙◌, length, get_or, map, Option, Some, None, Ok}
 use denote.Bor.{Bor}
 use Rattle.std.proofs.lemmas.List.{length-map}
-use Rattle.archive_shape.specs.ShapeLayout.Shape.{Shape, size_of}
+use Rattle.archive_shape_layout.specs.Shape.{Shape, size_of}
 use Rattle.archive_shape.specs.Bytes.{overwrite}
-use Rattle.archive_hash_probing.specs.ShapeCanonical.FirstFit.{present}
-use Rattle.archive_shape_writing.specs.Writing.{WriterMembers}
-use Rattle.archive_shape_writing.specs.declared.error.Error.{Error}
-use Rattle.archive_forms_writing.specs.FormsLaws.State.{State}
-use Rattle.archive_forms_writing.specs.FormsLaws.Spelling.{Spelling}
-use Rattle.archive_forms_writing.specs.FormsLaws.Regions.{resolvers, placed_fits, placed_refused}
-use Rattle.archive_forms_writing.specs.FormsLaws.Serializing.{CanResolve}
+use Rattle.archive_shape_canonical.specs.FirstFit.{present}
+use Rattle.archive_shape_layout.specs.Writing.{WriterMembers}
+use Rattle.archive_shape_layout.specs.declared.error.Error.{Error}
+use Rattle.archive_forms_laws.specs.State.{State}
+use Rattle.archive_forms_laws.specs.Spelling.{Spelling}
+use Rattle.archive_forms_laws.specs.Regions.{resolvers, placed_fits, placed_refused}
+use Rattle.archive_forms_laws.specs.Serializing.{CanResolve}
 use Rattle.archive_forms_writing.proofs.Laying.{Stops}
 use Rattle.archive_hash_writing.specs.Tables.{buckets, buckets_refused}
 use Rattle.archive_hash_writing.specs.Standing.{standing}

@@ -1,19 +1,19 @@
 -- What is settled at the root of an archive: a written table is filled as its fit fills it.
 use Rattle.std.proofs.Common.{◌≡◌, ◌∙◌, ℕ, List, [], ◌∷◌, Some, ap, sym, subst}
-use Rattle.archive_shape.specs.ShapeLayout.Shape.{Shape}
-use Rattle.archive_shape.specs.ShapeLayout.Shape.Pointee.{sized}
-use Rattle.archive_shape.specs.ShapeLayout.Value.{Value, Values}
-use Rattle.archive_shape.specs.ShapeLayout.Value.Values.{no_values, more_values}
-use Rattle.archive_shape.specs.ShapeLayout.Content.{Names, Part, Label, content_of, made}
-use Rattle.archive_shape.specs.ShapeLayout.Content.Part.{at, behind}
-use Rattle.archive_shape.specs.ShapeLayout.Content.Label.{same}
-use Rattle.archive_shape.specs.ShapeLayout.Content.Content.{plain}
-use Rattle.archive_shape.specs.ShapeLayout.Holds.{Region, Visit, OpenShared, Holds, HoldAll}
-use Rattle.archive_shape.specs.ShapeLayout.Holds.Holds.{holds_plain, holds_claimed, holds_first, holds_later, holds_back}
-use Rattle.archive_shape.specs.ShapeLayout.Holds.HoldAll.{holds_none, holds_more}
-use Rattle.archive_hash_probing.specs.ShapeCanonical.Settled.{Fit, IsSettled}
-use Rattle.archive_hash_probing.specs.ShapeCanonical.Canonical.{CanonicalArchive, IsCanonical, AreCanonical}
-use Rattle.archive_forms_writing.proofs.FormsValues.Contents.{sized_is}
+use Rattle.archive_shape_layout.specs.Shape.{Shape}
+use Rattle.archive_shape_layout.specs.Shape.Pointee.{sized}
+use Rattle.archive_shape_layout.specs.Value.{Value, Values}
+use Rattle.archive_shape_layout.specs.Value.Values.{no_values, more_values}
+use Rattle.archive_shape_layout.specs.Content.{Names, Part, Label, content_of, made}
+use Rattle.archive_shape_layout.specs.Content.Part.{at, behind}
+use Rattle.archive_shape_layout.specs.Content.Label.{same}
+use Rattle.archive_shape_layout.specs.Content.Content.{plain}
+use Rattle.archive_shape_layout.specs.Holds.{Region, Visit, OpenShared, Holds, HoldAll}
+use Rattle.archive_shape_layout.specs.Holds.Holds.{holds_plain, holds_claimed, holds_first, holds_later, holds_back}
+use Rattle.archive_shape_layout.specs.Holds.HoldAll.{holds_none, holds_more}
+use Rattle.archive_shape_canonical.specs.Settled.{Fit, IsSettled}
+use Rattle.archive_shape_canonical.specs.Canonical.{CanonicalArchive, IsCanonical, AreCanonical}
+use Rattle.archive_forms_values.proofs.Contents.{sized_is}
 
 pub made_one : (vs : Values) (v : Value) → made same vs ≡ Some v → vs ≡ more_values v no_values
 unfolding made

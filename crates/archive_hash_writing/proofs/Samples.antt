@@ -1,8 +1,8 @@
 -- The samples are spelled as their bytes.
 use Rattle.std.proofs.Common.{refl}
-use Rattle.archive_shape.specs.ShapeLayout.Bytes.{align_up}
-use Rattle.archive_hash_probing.specs.ShapeCanonical.FirstFit.{hash_tag, written_controls}
-use Rattle.archive_hash_probing.specs.ShapeCanonical.Strides.{least_power, stop, strides_from, strides, places_for}
+use Rattle.archive_shape_layout.specs.Bytes.{align_up}
+use Rattle.archive_shape_canonical.specs.FirstFit.{hash_tag, written_controls}
+use Rattle.archive_shape_canonical.specs.Strides.{least_power, stop, strides_from, strides, places_for}
 use Rattle.archive_hash_writing.specs.Laws.{SamplesAreSpelled}
 
 pub samples_are_spelled_law : SamplesAreSpelled

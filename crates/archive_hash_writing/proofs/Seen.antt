@@ -4,22 +4,22 @@ use Rattle.std.specs.Int.{w32, to_le_bytes}
 use Rattle.std.specs.List.{range_with_len}
 use Rattle.std.specs.Option.{option_map}
 use Rattle.std.proofs.lemmas.List.{length-map}
-use Rattle.archive_shape.specs.ShapeLayout.Bytes.{align_up}
-use Rattle.archive_shape.specs.ShapeLayout.Shape.{Shape, size_of, align_of}
-use Rattle.archive_shape.specs.ShapeLayout.Value.Value.{group}
-use Rattle.archive_shape.specs.ShapeLayout.Value.Values.{more_values}
-use Rattle.archive_hash_probing.specs.ShapeCanonical.FirstFit.{capacity_for, fitted_from, item_at, present, written_controls}
-use Rattle.archive_hash_probing.specs.ShapeCanonical.Seen.{keys_alone}
-use Rattle.archive_hash_probing.specs.ShapeCanonical.Settled.{Fit}
+use Rattle.archive_shape_layout.specs.Bytes.{align_up}
+use Rattle.archive_shape_layout.specs.Shape.{Shape, size_of, align_of}
+use Rattle.archive_shape_layout.specs.Value.Value.{group}
+use Rattle.archive_shape_layout.specs.Value.Values.{more_values}
+use Rattle.archive_shape_canonical.specs.FirstFit.{capacity_for, fitted_from, item_at, present, written_controls}
+use Rattle.archive_shape_canonical.specs.Seen.{keys_alone}
+use Rattle.archive_shape_canonical.specs.Settled.{Fit}
 use Rattle.archive_shape.specs.Bytes.{zeros}
-use Rattle.archive_shape_writing.specs.declared.error.Error.{Error}
-use Rattle.archive_shape_writing.specs.declared.error.Error.TheVariants.{LengthTooLarge, PositionTooLarge}
-use Rattle.archive_forms_writing.specs.FormsLaws.State.{State, Keys}
-use Rattle.archive_forms_writing.specs.FormsLaws.Spelling.{Spelling, state_after}
-use Rattle.archive_forms_writing.specs.FormsLaws.Forms.{seen_as, kept_as}
-use Rattle.archive_forms_writing.specs.FormsLaws.Links.{link_bytes, LinkFits, LinkRefused}
-use Rattle.archive_forms_writing.specs.FormsLaws.Regions.{state_after_all, values, plain_values, all_suit, pieces, pieces_fit, pieces_refused}
-use Rattle.archive_forms_writing.proofs.FormsLaws.Agreeing.{Said, said}
+use Rattle.archive_shape_layout.specs.declared.error.Error.{Error}
+use Rattle.archive_shape_layout.specs.declared.error.Error.TheVariants.{LengthTooLarge, PositionTooLarge}
+use Rattle.archive_forms_laws.specs.State.{State, Keys}
+use Rattle.archive_forms_laws.specs.Spelling.{Spelling, state_after}
+use Rattle.archive_forms_laws.specs.Forms.{seen_as, kept_as}
+use Rattle.archive_forms_laws.specs.Links.{link_bytes, LinkFits, LinkRefused}
+use Rattle.archive_forms_laws.specs.Regions.{state_after_all, values, plain_values, all_suit, pieces, pieces_fit, pieces_refused}
+use Rattle.archive_forms_laws.proofs.Agreeing.{Said, said}
 use Rattle.archive_hash_writing.specs.Fitted.{capacity_of, table_of, controls_of}
 use Rattle.archive_hash_writing.proofs.Placed.{item_mapped}
 use Rattle.archive_hash_writing.specs.Tables.{buckets, buckets_fit, buckets_refused, controls_at, region_from, IsPlaced, filled_piece, filled_fits, filled_refused, hashed_spelling}

@@ -3,7 +3,7 @@ use Rattle.std.proofs.Common.{◌≡◌, ℕ, ◌^◌, ◌<◌, List, [], ◌∷
 use Rattle.std.specs.Hash as fed
 use Rattle.std.specs.List.{All}
 use Rattle.std.proofs.lemmas.List.Elements.{All-nil, All-cons}
-use Rattle.archive_hash_probing.specs.ShapeCanonical.Hash.{text_hash}
+use Rattle.archive_shape_canonical.specs.Hash.{text_hash}
 use Rattle.archive_hash_probing.proofs.Small.{input_hash_small}
 use Rattle.archive_hash_writing.proofs.TextHash.{text_fed}
 

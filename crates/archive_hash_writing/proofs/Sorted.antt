@@ -2,7 +2,7 @@
 use Rattle.std.proofs.Common.{refl, ap, ap₂, sym, ◌∙◌, ◌≡◌, ◌<◌, arith, ℕ, Bool, true, false, cond, ◌||◌, ◌&&◌, ◌==◌, nat_lt, eqb-true, ltb-true, List, [], ◌∷◌, ◌⊎◌, inl, inr, ⊎_elim, ◌≤◌, ◌+◌, zero, suc, map, length, Option, Some, None, eq-eqb}
 use Rattle.std.specs.Prelude.{⊤}
 use Rattle.std.specs.List.{range_with_len, cons_option}
-use Rattle.archive_hash_probing.specs.ShapeCanonical.FirstFit.{comes_before, put_in, ascending, item_at, placed, present}
+use Rattle.archive_shape_canonical.specs.FirstFit.{comes_before, put_in, ascending, item_at, placed, present}
 
 split : (a b : Bool) → (a || b) ≡ true → (a ≡ true) ⊎ (b ≡ true)
 split true b e = inl refl

@@ -2,22 +2,22 @@
 use Rattle.std.proofs.Common.{◌≡◌, ℕ, ◌+◌, ◌-◌, ◌*◌, ◌<◌, ◌≤◌, cond, List, [], ◌∷◌, ◌⊎◌, length, slice_index, refl, sym, ap, subst, ◌∙◌, arith, inl, inr, ⊎_elim, lt-ltb, le-ltb, length-append, Option, Some, None}
 use Rattle.std.proofs.lemmas.Bool.{cases_lt}
 use Rattle.std.proofs.lemmas.List.{length-replicate}
-use Rattle.archive_shape.specs.ShapeLayout.Shape.{Shape, size_of}
-use Rattle.archive_shape.specs.ShapeLayout.Content.{Names, Part, Item, tagged_items, item_part, item_size}
-use Rattle.archive_shape.specs.ShapeLayout.Content.Item.{item}
-use Rattle.archive_shape.specs.ShapeLayout.Content.Part.{at}
-use Rattle.archive_shape.specs.ShapeLayout.Holds.{OpenShared}
-use Rattle.archive_hash_probing.specs.ShapeCanonical.Settled.{Fit}
-use Rattle.archive_hash_probing.specs.ShapeCanonical.Clean.{IsIn, InParts}
-use Rattle.archive_hash_probing.specs.ShapeCanonical.Canonical.{AreBytes}
-use Rattle.archive_hash_probing.specs.ShapeCanonical.FirstFit.{present}
+use Rattle.archive_shape_layout.specs.Shape.{Shape, size_of}
+use Rattle.archive_shape_layout.specs.Content.{Names, Part, Item, tagged_items, item_part, item_size}
+use Rattle.archive_shape_layout.specs.Content.Item.{item}
+use Rattle.archive_shape_layout.specs.Content.Part.{at}
+use Rattle.archive_shape_layout.specs.Holds.{OpenShared}
+use Rattle.archive_shape_canonical.specs.Settled.{Fit}
+use Rattle.archive_shape_canonical.specs.Clean.{IsIn, InParts}
+use Rattle.archive_shape_canonical.specs.Canonical.{AreBytes}
+use Rattle.archive_shape_canonical.specs.FirstFit.{present}
 use Rattle.archive_shape.specs.Bytes.{HasBytes, zeros}
 use Rattle.archive_shape.proofs.Pieces.{stands_left, stands_right, zero_stands}
-use Rattle.archive_shape_writing.specs.declared.error.Error.{Error}
-use Rattle.archive_forms_writing.specs.FormsLaws.State.{State, Keys, visits_of, IsConsistent, AllFrom, AreKeyedBy}
-use Rattle.archive_forms_writing.specs.FormsLaws.Spelling.{Spelling, state_after}
-use Rattle.archive_forms_writing.specs.FormsLaws.Spells.{EachSpells}
-use Rattle.archive_forms_writing.specs.FormsLaws.Regions.{state_after_all, values, all_suit, pieces, pieces_fit}
+use Rattle.archive_shape_layout.specs.declared.error.Error.{Error}
+use Rattle.archive_forms_laws.specs.State.{State, Keys, visits_of, IsConsistent, AllFrom, AreKeyedBy}
+use Rattle.archive_forms_laws.specs.Spelling.{Spelling, state_after}
+use Rattle.archive_forms_laws.specs.Spells.{EachSpells}
+use Rattle.archive_forms_laws.specs.Regions.{state_after_all, values, all_suit, pieces, pieces_fit}
 use Rattle.archive_forms_laws.proofs.States.{from_earlier}
 use Rattle.archive_forms_laws.proofs.Gaps.{bytes_none, bytes_append, bytes_zeros}
 use Rattle.archive_forms_laws.proofs.Regions.{CanonicalParts, no_parts, more_parts, state_after_all_pos}

@@ -4,29 +4,29 @@ use Rattle.std.specs.Prelude.{count_by}
 use Rattle.std.specs.List.{All}
 use Rattle.std.proofs.lemmas.Bool.{cases_lt}
 use Rattle.std.proofs.lemmas.List.{length-replicate, get_or_past}
-use Rattle.archive_shape.specs.ShapeLayout.Bytes.{window, align_up}
-use Rattle.archive_shape.specs.ShapeLayout.Shape.{Shape, size_of, align_of}
-use Rattle.archive_shape.specs.ShapeLayout.Value.Value.{group}
-use Rattle.archive_shape.specs.ShapeLayout.Content.{Names, made, choose, tagged_items, buckets_content, buckets_span, control_count, wraps}
-use Rattle.archive_shape.specs.ShapeLayout.Content.Item.{item}
-use Rattle.archive_shape.specs.ShapeLayout.Content.Part.{buckets}
-use Rattle.archive_shape.specs.ShapeLayout.Content.Label.{whole}
-use Rattle.archive_shape.specs.ShapeLayout.Content.Content.{claimed, illegal}
-use Rattle.archive_shape.specs.ShapeLayout.Holds.{OpenShared, Region, Ascends}
-use Rattle.archive_shape.specs.ShapeLayout.Holds.Holds.{holds_claimed}
+use Rattle.archive_shape_layout.specs.Bytes.{window, align_up}
+use Rattle.archive_shape_layout.specs.Shape.{Shape, size_of, align_of}
+use Rattle.archive_shape_layout.specs.Value.Value.{group}
+use Rattle.archive_shape_layout.specs.Content.{Names, made, choose, tagged_items, buckets_content, buckets_span, control_count, wraps}
+use Rattle.archive_shape_layout.specs.Content.Item.{item}
+use Rattle.archive_shape_layout.specs.Content.Part.{buckets}
+use Rattle.archive_shape_layout.specs.Content.Label.{whole}
+use Rattle.archive_shape_layout.specs.Content.Content.{claimed, illegal}
+use Rattle.archive_shape_layout.specs.Holds.{OpenShared, Region, Ascends}
+use Rattle.archive_shape_layout.specs.Holds.Holds.{holds_claimed}
 use Rattle.archive_shape_layout.proofs.Framed.{le_align_up}
-use Rattle.archive_hash_probing.specs.ShapeCanonical.Settled.{Fit}
-use Rattle.archive_hash_probing.specs.ShapeCanonical.Clean.{AreControlsFilled}
-use Rattle.archive_hash_probing.specs.ShapeCanonical.Canonical.{AreBytes, end_of_all}
-use Rattle.archive_hash_probing.specs.ShapeCanonical.FirstFit.{present}
+use Rattle.archive_shape_canonical.specs.Settled.{Fit}
+use Rattle.archive_shape_canonical.specs.Clean.{AreControlsFilled}
+use Rattle.archive_shape_canonical.specs.Canonical.{AreBytes, end_of_all}
+use Rattle.archive_shape_canonical.specs.FirstFit.{present}
 use Rattle.archive_shape_canonical.proofs.Cleanness.{clean_by}
 use Rattle.archive_shape.specs.Bytes.{HasBytes, zeros}
 use Rattle.archive_shape.proofs.Pieces.{stands_left, stands_right, zero_stands}
-use Rattle.archive_shape_writing.specs.declared.error.Error.{Error}
-use Rattle.archive_forms_writing.specs.FormsLaws.State.{State, Keys, visits_of, IsConsistent, AllFrom, AreKeyedBy, advanced}
-use Rattle.archive_forms_writing.specs.FormsLaws.Spelling.{Spelling}
-use Rattle.archive_forms_writing.specs.FormsLaws.Spells.{CanonicalPart, EachSpells}
-use Rattle.archive_forms_writing.specs.FormsLaws.Regions.{state_after_all, values, all_suit, pieces}
+use Rattle.archive_shape_layout.specs.declared.error.Error.{Error}
+use Rattle.archive_forms_laws.specs.State.{State, Keys, visits_of, IsConsistent, AllFrom, AreKeyedBy, advanced}
+use Rattle.archive_forms_laws.specs.Spelling.{Spelling}
+use Rattle.archive_forms_laws.specs.Spells.{CanonicalPart, EachSpells}
+use Rattle.archive_forms_laws.specs.Regions.{state_after_all, values, all_suit, pieces}
 use Rattle.archive_forms_laws.proofs.Aligning.{starts_aligned}
 use Rattle.archive_forms_laws.proofs.States.{from_earlier, consistent_further}
 use Rattle.archive_forms_laws.proofs.Gaps.{gaps_join, ascends_join, bytes_append, bytes_zeros}

@@ -3,7 +3,7 @@ use Rattle.std.proofs.Common.{◌≡◌, ◌∙◌, ℕ, ◌+◌, ◌*◌, ◌/�
 use Rattle.std.specs.List.{All}
 use Rattle.std.specs.List.Sorted.{IsPermutation}
 use Rattle.std.proofs.lemmas.List.FromFn.{length-map-range_with_len}
-use Rattle.archive_hash_probing.specs.ShapeCanonical.FirstFit.{capacity_for, item_at}
+use Rattle.archive_shape_canonical.specs.FirstFit.{capacity_for, item_at}
 use Rattle.archive_hash_probing.specs.Controls.{AreControls}
 use Rattle.archive_hash_probing.proofs.FirstFits.{written_are}
 use Rattle.archive_hash_probing.proofs.Fit.{IsFirstFit, first_fit}

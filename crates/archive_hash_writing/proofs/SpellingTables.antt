@@ -4,34 +4,34 @@ use Rattle.std.specs.List.{All}
 use Rattle.std.specs.Int.{w32, to_le_bytes}
 use Rattle.std.proofs.lemmas.List.{length-map}
 use Rattle.std.proofs.lemmas.List.Elements.{All-nil, All-cons}
-use Rattle.archive_shape.specs.ShapeLayout.Bytes.{window, word_at, target_from}
-use Rattle.archive_shape.specs.ShapeLayout.Shape.{Shape}
-use Rattle.archive_shape.specs.ShapeLayout.Shape.Shape.{table}
-use Rattle.archive_shape.specs.ShapeLayout.Value.{count_values}
-use Rattle.archive_shape.specs.ShapeLayout.Value.Value.{group}
-use Rattle.archive_shape.specs.ShapeLayout.Value.Values.{more_values, no_values}
-use Rattle.archive_shape.specs.ShapeLayout.Content.{Names, made, choose, following, content_of, control_count, shape_content, table_parts}
-use Rattle.archive_shape.specs.ShapeLayout.Content.Item.{item}
-use Rattle.archive_shape.specs.ShapeLayout.Content.Part.{at, buckets}
-use Rattle.archive_shape.specs.ShapeLayout.Content.Label.{whole, same}
-use Rattle.archive_shape.specs.ShapeLayout.Content.Content.{plain, illegal}
-use Rattle.archive_shape.specs.ShapeLayout.Holds.{OpenShared, Ascends}
-use Rattle.archive_shape.specs.ShapeLayout.Holds.Holds.{holds_plain}
-use Rattle.archive_shape.specs.ShapeLayout.Holds.HoldAll.{holds_none}
-use Rattle.archive_hash_probing.specs.ShapeCanonical.Settled.{Fit, IsSettled}
-use Rattle.archive_hash_probing.specs.ShapeCanonical.FirstFit.{present}
-use Rattle.archive_hash_probing.specs.ShapeCanonical.Seen.{keys_alone}
-use Rattle.archive_hash_probing.specs.ShapeCanonical.Sharing.{all_erased}
+use Rattle.archive_shape_layout.specs.Bytes.{window, word_at, target_from}
+use Rattle.archive_shape_layout.specs.Shape.{Shape}
+use Rattle.archive_shape_layout.specs.Shape.Shape.{table}
+use Rattle.archive_shape_layout.specs.Value.{count_values}
+use Rattle.archive_shape_layout.specs.Value.Value.{group}
+use Rattle.archive_shape_layout.specs.Value.Values.{more_values, no_values}
+use Rattle.archive_shape_layout.specs.Content.{Names, made, choose, following, content_of, control_count, shape_content, table_parts}
+use Rattle.archive_shape_layout.specs.Content.Item.{item}
+use Rattle.archive_shape_layout.specs.Content.Part.{at, buckets}
+use Rattle.archive_shape_layout.specs.Content.Label.{whole, same}
+use Rattle.archive_shape_layout.specs.Content.Content.{plain, illegal}
+use Rattle.archive_shape_layout.specs.Holds.{OpenShared, Ascends}
+use Rattle.archive_shape_layout.specs.Holds.Holds.{holds_plain}
+use Rattle.archive_shape_layout.specs.Holds.HoldAll.{holds_none}
+use Rattle.archive_shape_canonical.specs.Settled.{Fit, IsSettled}
+use Rattle.archive_shape_canonical.specs.FirstFit.{present}
+use Rattle.archive_shape_canonical.specs.Seen.{keys_alone}
+use Rattle.archive_shape_canonical.specs.Sharing.{all_erased}
 use Rattle.archive_shape_canonical.proofs.Choosing.{count_keys_alone, erased_by_keys}
 use Rattle.archive_shape_canonical.proofs.Cleanness.{clean_by}
 use Rattle.archive_shape.specs.Bytes.{HasBytes}
 use Rattle.archive_shape.proofs.Pieces.{stands_left, stands_right, stands_word}
-use Rattle.archive_shape_writing.specs.declared.error.Error.{Error}
-use Rattle.archive_forms_writing.specs.FormsLaws.State.{State, Keys, visits_of, IsConsistent, AllFrom, AreKeyedBy}
-use Rattle.archive_forms_writing.specs.FormsLaws.Spelling.{Spelling, state_after}
-use Rattle.archive_forms_writing.specs.FormsLaws.Spells.{CanonicalPart, EachSpells, SpellsAt, Spells}
-use Rattle.archive_forms_writing.specs.FormsLaws.Regions.{state_after_all, values, plain_values, all_suit}
-use Rattle.archive_forms_writing.specs.FormsLaws.Links.{link_bytes, LinkFits}
+use Rattle.archive_shape_layout.specs.declared.error.Error.{Error}
+use Rattle.archive_forms_laws.specs.State.{State, Keys, visits_of, IsConsistent, AllFrom, AreKeyedBy}
+use Rattle.archive_forms_laws.specs.Spelling.{Spelling, state_after}
+use Rattle.archive_forms_laws.specs.Spells.{CanonicalPart, EachSpells, SpellsAt, Spells}
+use Rattle.archive_forms_laws.specs.Regions.{state_after_all, values, plain_values, all_suit}
+use Rattle.archive_forms_laws.specs.Links.{link_bytes, LinkFits}
 use Rattle.archive_forms_laws.proofs.Gaps.{bytes_none, bytes_append, bytes_word}
 use Rattle.archive_forms_laws.proofs.Links.{link_small, link_exact, length-link}
 use Rattle.archive_forms_laws.proofs.Pointers.{offset_stands, one_part}

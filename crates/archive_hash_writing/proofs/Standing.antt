@@ -4,7 +4,7 @@ use denote.Bor.{Bor}
 use Rattle.std.proofs.lemmas.Bool.Decides.{eqb_tells}
 use Rattle.std.proofs.lemmas.List.{length-map, map-set, drop_more, drop_all, get_or-map, length-replicate, get_or-replicate}
 use Rattle.std.proofs.lemmas.List.FromFn.{length-map-range_with_len, get_or-map-range_with_len, fill_by_all}
-use Rattle.archive_hash_probing.specs.ShapeCanonical.FirstFit.{item_at, placed}
+use Rattle.archive_shape_canonical.specs.FirstFit.{item_at, placed}
 use Rattle.archive_hash_writing.specs.Standing.{standing}
 
 module _ {A : Type 0} where

@@ -7,8 +7,8 @@ use Rattle.std.proofs.lemmas.List.{length-take}
 use Rattle.std.proofs.lemmas.List.FromFn.{length-map-range_with_len, get_or-map-range_with_len}
 use Rattle.std.proofs.lemmas.List.Sums.{sum_by-cons}
 use Rattle.std.proofs.lemmas.List.Elements.{All-nil, All-cons, All-head, All-tail}
-use Rattle.archive_hash_probing.specs.ShapeCanonical.FirstFit.{control_at, hash_tag, item_at, placed, present, written_controls}
-use Rattle.archive_hash_probing.specs.ShapeCanonical.Strides.{sixteens}
+use Rattle.archive_shape_canonical.specs.FirstFit.{control_at, hash_tag, item_at, placed, present, written_controls}
+use Rattle.archive_shape_canonical.specs.Strides.{sixteens}
 use Rattle.archive_hash_probing.proofs.FirstFits.{Tags, length-written, written_low, tag_below}
 
 -- a control of a place with or without an item

@@ -1,7 +1,7 @@
 -- The hash of a text is that of what a text feeds to a hasher.
 use Rattle.std.proofs.Common.{◌≡◌, ◌∙◌, ℕ, List, [], ◌∷◌, ◌++◌, refl, ap}
 use Rattle.std.specs.Hash as fed
-use Rattle.archive_hash_probing.specs.ShapeCanonical.Hash.{hash_word, hash_words, text_hash, words_of, words_from}
+use Rattle.archive_shape_canonical.specs.Hash.{hash_word, hash_words, text_hash, words_of, words_from}
 use Rattle.archive_hash_probing.specs.Inputs.{input_hash}
 
 words_appended : (h : ℕ) (ws vs : List ℕ) → hash_words h (ws ++ vs) ≡ hash_words (hash_words h ws) vs

@@ -1,15 +1,15 @@
 -- The region of a table that is written after the data of its items.
 use Rattle.std.proofs.Common.{◌≡◌, ℕ, ◌+◌, ◌-◌, ◌*◌, ◌^◌, ◌<◌, List, ◌++◌, append_assoc, refl, sym, ap, subst, ◌∙◌, arith, length, inl, inr, ◌⊎◌, Option, Ok}
 use Rattle.std.proofs.lemmas.List.{length-replicate}
-use Rattle.archive_shape.specs.ShapeLayout.Bytes.{align_up}
-use Rattle.archive_shape.specs.ShapeLayout.Shape.{Shape, size_of, align_of}
-use Rattle.archive_shape.proofs.ShapeLayout.Framed.{le_align_up}
+use Rattle.archive_shape_layout.specs.Bytes.{align_up}
+use Rattle.archive_shape_layout.specs.Shape.{Shape, size_of, align_of}
+use Rattle.archive_shape_layout.proofs.Framed.{le_align_up}
 use Rattle.archive_shape.specs.Bytes.{zeros}
-use Rattle.archive_shape_writing.specs.Writing.{WriterMembers}
-use Rattle.archive_shape_writing.specs.declared.error.Error.{Error}
-use Rattle.archive_shape_writing.specs.declared.error.Error.TheVariants.{PositionTooLarge}
-use Rattle.archive_forms_writing.specs.FormsLaws.State.{State}
-use Rattle.archive_forms_writing.specs.FormsLaws.Spelling.{Spelling}
+use Rattle.archive_shape_layout.specs.Writing.{WriterMembers}
+use Rattle.archive_shape_layout.specs.declared.error.Error.{Error}
+use Rattle.archive_shape_layout.specs.declared.error.Error.TheVariants.{PositionTooLarge}
+use Rattle.archive_forms_laws.specs.State.{State}
+use Rattle.archive_forms_laws.specs.Spelling.{Spelling}
 use Rattle.archive_forms_writing.proofs.Laying.{Wrote, Fails, Stops, wrote_both, stopped_after, stopped_first, stopped_before}
 use Rattle.archive_hash_writing.specs.Tables.{buckets, buckets_fit, buckets_refused, state_after_items, region_from, controls_at, IsPlaced}
 use Rattle.archive_hash_writing.specs.Laying.{LaysRegion}

@@ -3,18 +3,18 @@ use Rattle.std.proofs.Common.{◌≡◌, ℕ, zero, suc, ◌+◌, ◌-◌, ◌*�
 use Rattle.std.specs.Prelude.{⊤, Result}
 use denote.Bor.{Bor}
 use Rattle.std.proofs.Math.Dec.{eqb-suc-zero}
-use Rattle.archive_shape.specs.ShapeLayout.Shape.{Shape}
+use Rattle.archive_shape_layout.specs.Shape.{Shape}
 use Rattle.archive_shape.specs.Bytes.{zeros}
-use Rattle.archive_hash_probing.specs.ShapeCanonical.FirstFit.{capacity_for, first_fit, fitted_from, placed, present, written_controls}
-use Rattle.archive_shape_writing.specs.Writing.{WriterMembers}
-use Rattle.archive_shape_writing.specs.declared.error.Error.{Error}
-use Rattle.archive_shape_writing.specs.declared.error.Error.TheVariants.{LengthTooLarge, InvalidLoadFactor, PositionTooLarge}
-use Rattle.archive_shape_writing.proofs.Joined.{written_none}
-use Rattle.archive_forms_writing.specs.FormsLaws.State.{State, visit_of_key}
-use Rattle.archive_forms_writing.specs.FormsLaws.Spelling.{Spelling, state_after}
-use Rattle.archive_forms_writing.specs.FormsLaws.Regions.{state_after_all, pieces, pieces_fit, pieces_refused}
-use Rattle.archive_forms_writing.specs.FormsLaws.Serializing.{of_data, IsAt, Serializes, is_begun, progress_by}
-use Rattle.archive_forms_writing.proofs.FormsLaws.Regions.{state_after_all_begun}
+use Rattle.archive_shape_canonical.specs.FirstFit.{capacity_for, first_fit, fitted_from, placed, present, written_controls}
+use Rattle.archive_shape_layout.specs.Writing.{WriterMembers}
+use Rattle.archive_shape_layout.specs.declared.error.Error.{Error}
+use Rattle.archive_shape_layout.specs.declared.error.Error.TheVariants.{LengthTooLarge, InvalidLoadFactor, PositionTooLarge}
+use Rattle.archive_shape_layout.proofs.Joined.{written_none}
+use Rattle.archive_forms_laws.specs.State.{State, visit_of_key}
+use Rattle.archive_forms_laws.specs.Spelling.{Spelling, state_after}
+use Rattle.archive_forms_laws.specs.Regions.{state_after_all, pieces, pieces_fit, pieces_refused}
+use Rattle.archive_forms_laws.specs.Serializing.{of_data, IsAt, Serializes, is_begun, progress_by}
+use Rattle.archive_forms_laws.proofs.Regions.{state_after_all_begun}
 use Rattle.archive_forms_writing.proofs.Laying.{Wrote, Stops, wrote_both, stopped_after, stopped_first, stopped_before, as_data, stops_as_data}
 use Rattle.archive_hash_probing.specs.Loads.{IsLoadFactor}
 use Rattle.archive_hash_probing.proofs.FirstFits.{written_are}

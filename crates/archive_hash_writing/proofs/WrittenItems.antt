@@ -4,34 +4,34 @@ use Rattle.std.specs.Prelude.{nat_lt}
 use Rattle.std.specs.List.{All, AllZip, range_with_len, cons_option}
 use Rattle.std.proofs.lemmas.Bool.{cases_eq}
 use Rattle.std.proofs.lemmas.List.{length-map}
-use Rattle.archive_shape.specs.ShapeLayout.Bytes.{window, word_at, target_from}
-use Rattle.archive_shape.specs.ShapeLayout.Shape.{Shape}
-use Rattle.archive_shape.specs.ShapeLayout.Shape.Shape.{table}
-use Rattle.archive_shape.specs.ShapeLayout.Value.{Value, Values, count_values}
-use Rattle.archive_shape.specs.ShapeLayout.Value.Value.{group}
-use Rattle.archive_shape.specs.ShapeLayout.Value.Values.{no_values, more_values}
-use Rattle.archive_shape.specs.ShapeLayout.Content.{Names, members}
-use Rattle.archive_shape.specs.ShapeLayout.Content.Item.{item}
-use Rattle.archive_shape.specs.ShapeLayout.Content.Part.{at, buckets}
-use Rattle.archive_shape.specs.ShapeLayout.Content.Label.{same}
-use Rattle.archive_shape.specs.ShapeLayout.Holds.{Region, Visit}
+use Rattle.archive_shape_layout.specs.Bytes.{window, word_at, target_from}
+use Rattle.archive_shape_layout.specs.Shape.{Shape}
+use Rattle.archive_shape_layout.specs.Shape.Shape.{table}
+use Rattle.archive_shape_layout.specs.Value.{Value, Values, count_values}
+use Rattle.archive_shape_layout.specs.Value.Value.{group}
+use Rattle.archive_shape_layout.specs.Value.Values.{no_values, more_values}
+use Rattle.archive_shape_layout.specs.Content.{Names, members}
+use Rattle.archive_shape_layout.specs.Content.Item.{item}
+use Rattle.archive_shape_layout.specs.Content.Part.{at, buckets}
+use Rattle.archive_shape_layout.specs.Content.Label.{same}
+use Rattle.archive_shape_layout.specs.Holds.{Region, Visit}
 use Rattle.archive_shape.specs.Key.{HeldAt}
 use Rattle.archive_shape_layout.proofs.Windows.{word_within}
 use Rattle.archive_shape_canonical.proofs.Choosing.{choices, IsFilledAs, settled_chosen}
-use Rattle.archive_hash_probing.specs.ShapeCanonical.FirstFit.{item_at, present, control_at}
-use Rattle.archive_hash_probing.specs.ShapeCanonical.Seen.{keys_alone}
-use Rattle.archive_hash_probing.specs.ShapeCanonical.Settled.{Fit, IsSettled}
-use Rattle.archive_hash_probing.specs.ShapeCanonical.Sharing.{erased}
-use Rattle.archive_hash_probing.specs.ShapeCanonical.Canonical.{CanonicalArchive}
+use Rattle.archive_shape_canonical.specs.FirstFit.{item_at, present, control_at}
+use Rattle.archive_shape_canonical.specs.Seen.{keys_alone}
+use Rattle.archive_shape_canonical.specs.Settled.{Fit, IsSettled}
+use Rattle.archive_shape_canonical.specs.Sharing.{erased}
+use Rattle.archive_shape_canonical.specs.Canonical.{CanonicalArchive}
 use Rattle.archive_hash_probing.proofs.FirstFits.{written_low}
-use Rattle.archive_forms_writing.specs.FormsLaws.State.{State}
-use Rattle.archive_forms_writing.specs.FormsLaws.Spelling.{Spelling, state_after}
-use Rattle.archive_forms_writing.specs.FormsLaws.Regions.{values, plain_values}
-use Rattle.archive_forms_writing.proofs.FormsValues.Rooted.{root_held}
-use Rattle.archive_forms_writing.proofs.FormsValues.Targets.{first_word}
-use Rattle.archive_hash_maps.specs.HashWalking.Tables.{Buckets, no_buckets, full_places, item_position, item_positions, IsTableAt, IsTableOf, AreItemsAt}
-use Rattle.archive_hash_maps.specs.HashWalking.Tables.IsTableAt.{has_none, has_buckets}
-use Rattle.archive_hash_maps.proofs.HashWalking.Read.{table_is_read}
+use Rattle.archive_forms_laws.specs.State.{State}
+use Rattle.archive_forms_laws.specs.Spelling.{Spelling, state_after}
+use Rattle.archive_forms_laws.specs.Regions.{values, plain_values}
+use Rattle.archive_forms_values.proofs.Rooted.{root_held}
+use Rattle.archive_forms_values.proofs.Targets.{first_word}
+use Rattle.archive_hash_maps.specs.Tables.{Buckets, no_buckets, full_places, item_position, item_positions, IsTableAt, IsTableOf, AreItemsAt}
+use Rattle.archive_hash_maps.specs.Tables.IsTableAt.{has_none, has_buckets}
+use Rattle.archive_hash_maps.proofs.Read.{table_is_read}
 use Rattle.archive_hash_writing.specs.Fitted.{capacity_of, places_of, table_of, by_place, controls_of}
 use Rattle.archive_hash_writing.specs.Tables.{IsFilledBy}
 use Rattle.archive_hash_writing.proofs.Rooted.{made_one, root_settled}

@@ -1,5 +1,5 @@
 -- How a value is archived by what stands beside it.
-use Rattle.archive_forms_writing.specs.FormsLaws.Spelling.{Spelling}
+use Rattle.archive_forms_laws.specs.Spelling.{Spelling}
 
 abbrev pub beside_spelling : {A B R : Type 0} → (A → Spelling B R) → Spelling (A × B) R
 beside_spelling by = record {

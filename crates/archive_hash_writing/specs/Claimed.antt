@@ -1,13 +1,13 @@
 -- The contract of a call that writes the table of the items that an iterator returns, whose number the caller claims.
 use Rattle.std.specs.Prelude.{◌≡◌, ℕ, ◌⊎◌, List, [], ◌∷◌, length, Result, Err, ⊤}
-use Rattle.archive_shape.specs.ShapeLayout.Shape.{Shape}
-use Rattle.archive_shape_writing.specs.Writing.{WriterMembers}
-use Rattle.archive_shape_writing.specs.declared.error.Error.{Error}
-use Rattle.archive_shape_writing.specs.declared.error.Error.TheVariants.{InvalidLoadFactor, IteratorLengthMismatch}
-use Rattle.archive_forms_writing.specs.FormsLaws.Spelling.{Spelling}
-use Rattle.archive_forms_writing.specs.FormsLaws.Forms.{kept_as}
-use Rattle.archive_forms_writing.specs.FormsLaws.Serializing.{Serializes}
-use Rattle.archive_forms_borrowed.specs.Claims.{RefusesMemory}
+use Rattle.archive_shape_layout.specs.Shape.{Shape}
+use Rattle.archive_shape_layout.specs.Writing.{WriterMembers}
+use Rattle.archive_shape_layout.specs.declared.error.Error.{Error}
+use Rattle.archive_shape_layout.specs.declared.error.Error.TheVariants.{InvalidLoadFactor, IteratorLengthMismatch}
+use Rattle.archive_forms_laws.specs.Spelling.{Spelling}
+use Rattle.archive_forms_laws.specs.Forms.{kept_as}
+use Rattle.archive_forms_laws.specs.Serializing.{Serializes}
+use Rattle.archive_forms_writing.specs.Claims.{RefusesMemory}
 use Rattle.archive_hash_probing.specs.Loads.{IsLoadFactor}
 use Rattle.archive_hash_maps.specs.declared.map.resolving.HashTableResolver.{HashTableResolver}
 use Rattle.archive_hash_writing.specs.Tables.{hashed_spelling}

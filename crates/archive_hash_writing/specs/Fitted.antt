@@ -1,6 +1,6 @@
 -- The places of the items of a table that is written: each item, in the order of the list, is at its first fit.
 use Rattle.std.specs.Prelude.{ℕ, List, [], length, Option}
-use Rattle.archive_hash_probing.specs.ShapeCanonical.FirstFit.{capacity_for, fitted_from, placed, present, written_controls}
+use Rattle.archive_shape_canonical.specs.FirstFit.{capacity_for, fitted_from, placed, present, written_controls}
 
 -- of items with a hash for each, in a table of which `most` of `places` places may be full
 module _ {A : Type 0} (most places : ℕ) (hashes : List ℕ) where

@@ -1,13 +1,13 @@
 -- The laws of how tables are archived, as statements.
 use Rattle.std.specs.Prelude.{◌≡◌, ℕ, ◌^◌, ◌<◌, List, [], ◌∷◌, map}
-use Rattle.archive_shape.specs.ShapeLayout.Content.{Names}
-use Rattle.archive_hash_probing.specs.ShapeCanonical.Settled.{Fit}
-use Rattle.archive_forms_writing.specs.FormsLaws.State.{initial}
-use Rattle.archive_forms_writing.specs.FormsLaws.Regions.{region_piece, region_fits}
-use Rattle.archive_forms_writing.specs.FormsLaws.Written.{IsWritten}
+use Rattle.archive_shape_layout.specs.Content.{Names}
+use Rattle.archive_shape_canonical.specs.Settled.{Fit}
+use Rattle.archive_forms_laws.specs.State.{initial}
+use Rattle.archive_forms_laws.specs.Regions.{region_piece, region_fits}
+use Rattle.archive_forms_laws.specs.Written.{IsWritten}
 use Rattle.archive_hash_writing.specs.Tables.{table_spelling, IsFilledBy}
 use Rattle.archive_hash_writing.specs.Sample.{number_shape, sample_shape, sample_spelling, empty_bytes, one_item, one_item_bytes, three_items, three_items_bytes}
-use Rattle.archive_forms_writing.specs.FormsLaws.Sample.{number_spelling}
+use Rattle.archive_forms_laws.specs.Sample.{number_spelling}
 
 -- these tables are spelled as these bytes
 abbrev pub IsSpelled : List ℕ → List ℕ → Type 0

@@ -1,13 +1,13 @@
 -- The contracts of calls that write the region of a table, whose items are at their places.
 use Rattle.std.specs.Prelude.{◌≡◌, ℕ, ◌+◌, ◌-◌, ◌*◌, ◌≤◌, List, ◌++◌, length, take, Option, Result, Ok, IfOk, ◌⊎◌}
-use Rattle.archive_shape.specs.ShapeLayout.Shape.{Shape, size_of}
+use Rattle.archive_shape_layout.specs.Shape.{Shape, size_of}
 use Rattle.archive_shape.specs.Bytes.{zeros}
-use Rattle.archive_shape_writing.specs.Writing.{WriterMembers, Writes}
-use Rattle.archive_shape_writing.specs.declared.error.Error.{Error}
-use Rattle.archive_shape_writing.specs.declared.error.Error.TheVariants.{PositionTooLarge}
-use Rattle.archive_forms_writing.specs.FormsLaws.State.{State}
-use Rattle.archive_forms_writing.specs.FormsLaws.Spelling.{Spelling}
-use Rattle.archive_forms_writing.specs.FormsLaws.Serializing.{Lays}
+use Rattle.archive_shape_layout.specs.Writing.{WriterMembers, Writes}
+use Rattle.archive_shape_layout.specs.declared.error.Error.{Error}
+use Rattle.archive_shape_layout.specs.declared.error.Error.TheVariants.{PositionTooLarge}
+use Rattle.archive_forms_laws.specs.State.{State}
+use Rattle.archive_forms_laws.specs.Spelling.{Spelling}
+use Rattle.archive_forms_laws.specs.Serializing.{Lays}
 use Rattle.archive_hash_writing.specs.Tables.{buckets, buckets_fit, buckets_refused, state_after_items, region_from, controls_at, IsPlaced}
 
 -- The result is the number of bytes of a buffer that are in use: the same number as before, with room after them; or

@@ -1,6 +1,10 @@
 pub mod Beside
+pub mod Calls
 pub mod Claimed
 pub mod Fitted
+pub mod IndexLaws
+pub mod IndexMaps
+pub mod IndexResolvers
 pub mod Laws
 pub mod Laying
 pub mod Sample

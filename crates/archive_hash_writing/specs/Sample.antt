@@ -1,14 +1,12 @@
 -- Samples: tables of numbers of four bytes, of which seven of eight places may be full.
 use Rattle.std.specs.Prelude.{ℕ, ◌+◌, ◌*◌, ◌%◌, ◌^◌, false, List, [], ◌∷◌, ◌++◌, replicate, Option}
-use Rattle.std.specs.Int.{w32, to_le_bytes}
-use Rattle.archive_shape.specs.ShapeLayout.Shape.{Shape}
-use Rattle.archive_shape.specs.ShapeLayout.Shape.Shape.{number, table}
-use Rattle.archive_shape.specs.ShapeLayout.Value.Value.{natural}
+use Rattle.std.specs.Int.{w32}
+use Rattle.archive_shape_layout.specs.Shape.{Shape}
+use Rattle.archive_shape_layout.specs.Shape.Shape.{number, table}
 use Rattle.archive_shape.specs.Bytes.{zeros}
-use Rattle.archive_forms_writing.specs.FormsLaws.Spelling.{Spelling}
-use Rattle.archive_forms_writing.specs.FormsLaws.Forms.{leaf_spelling}
+use Rattle.archive_forms_laws.specs.Spelling.{Spelling}
 use Rattle.archive_hash_writing.specs.Tables.{table_spelling}
-use Rattle.archive_forms_writing.specs.FormsLaws.Sample.{number_spelling}
+use Rattle.archive_forms_laws.specs.Sample.{number_spelling}
 
 abbrev pub number_shape : Shape
 number_shape = number w32 false

@@ -1,13 +1,10 @@
 //! Writes the buckets of a table: the own bytes of the item at each place, from the last place down to the first.
-ghost use Rattle.std.specs.Prelude.{◌≡◌, ◌+◌, ◌-◌, ◌*◌, ◌^◌, ◌<◌, ◌≤◌, length, map};
-ghost use Rattle.archive_shape.specs.ShapeLayout.Shape.{size_of};
+ghost use Rattle.std.specs.Prelude.{◌≡◌, ◌+◌, ◌-◌, ◌*◌, ◌^◌, ◌<◌, ◌≤◌, length};
+ghost use Rattle.archive_shape_layout.specs.Shape.{size_of};
 ghost use Rattle.archive_shape.specs.Bytes.{zeros};
-ghost use Rattle.archive_hash_probing.specs.ShapeCanonical.FirstFit.{present};
-ghost use Rattle.archive_forms_writing.specs.FormsLaws.State.{State};
-ghost use Rattle.archive_forms_writing.specs.FormsLaws.Serializing.{CanResolve, Resolves};
-ghost use Rattle.archive_forms_writing.specs.FormsLaws.Regions.{resolvers};
-ghost use Rattle.archive_hash_writing.specs.Standing.{standing};
-ghost use Rattle.archive_hash_writing.specs.Laying.{MakesRoom, LaysBuckets};
+ghost use Rattle.archive_forms_laws.specs.Serializing.{CanResolve, Resolves};
+ghost use Rattle.archive_hash_writing.specs.Laying.{MakesRoom};
+ghost use Rattle.archive_hash_writing.specs.Calls.{AreMade, WritesBuckets};
 
 use archive_forms_writing::ArchiveWith;
 use archive_shape::{Allocator, Error, Place, Portable, Writer};
@@ -66,13 +63,11 @@ fn write_through<'a, T, A: ArchiveWith<T>, W: Writer>(
     buffer: &mut [u8],
 ) -> Result<(), Error>
     requires room { W.failures writer.old < 2 ^ 64 - 1 }
-    requires made { (st : State) × (kept.now ≡ resolvers (A.spelling with.now)
-        (present (map standing table.now)) st) }
+    requires made { AreMade (A.spelling with.now) table.now kept.now }
     requires blank { buffer.old ≡ zeros (length buffer.old) }
     requires wide { size_of A.Archived.shape ≤ length buffer.old }
     requires stands { W.pos writer.old + length table.now * size_of A.Archived.shape < 2 ^ 64 }
-    ensures { (st : State) → kept.now ≡ resolvers (A.spelling with.now) (present (map standing table.now)) st
-        → LaysBuckets A.Archived.shape (A.spelling with.now) W.Writer (map standing table.now) st writer.old writer.new result }
+    ensures { WritesBuckets (A.spelling with.now) table.now kept.now A.Archived.shape W.Writer writer.old writer.new result }
 {
     let _len = buffer.len();
     let size = A::Archived::SIZE;
@@ -104,12 +99,11 @@ pub(crate) fn write_buckets<'a, T, A: ArchiveWith<T>, S: Writer + Allocator>(
     serializer: &mut S,
 ) -> Result<(), Error>
     requires room { S.failures serializer.old < 2 ^ 64 - 1 }
-    requires made { (st : State) × (kept.now ≡ resolvers (A.spelling with.now)
-        (present (map standing table.now)) st) }
+    requires made { AreMade (A.spelling with.now) table.now kept.now }
     requires some { 0 < length table.now }
     requires stands { S.pos serializer.old + length table.now * size_of A.Archived.shape < 2 ^ 64 }
-    ensures { (st : State) → kept.now ≡ resolvers (A.spelling with.now) (present (map standing table.now)) st
-        → LaysBuckets A.Archived.shape (A.spelling with.now) S.Writer (map standing table.now) st serializer.old serializer.new result }
+    ensures { WritesBuckets (A.spelling with.now) table.now kept.now A.Archived.shape S.Writer
+        serializer.old serializer.new result }
 {
     let size = A::Archived::SIZE;
     if size <= BUFFER {

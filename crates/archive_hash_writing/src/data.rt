@@ -1,11 +1,10 @@
 //! Writes the data of the items of a table, by ascending place.
-ghost use Rattle.std.specs.Prelude.{◌≡◌, ◌-◌, ◌^◌, ◌<◌, map};
-ghost use Rattle.archive_hash_probing.specs.ShapeCanonical.FirstFit.{present};
-ghost use Rattle.archive_forms_writing.specs.FormsLaws.State.{State};
-ghost use Rattle.archive_forms_writing.specs.FormsLaws.Serializing.{IsAt, HasState, LaysData};
-ghost use Rattle.archive_forms_writing.specs.FormsLaws.Regions.{state_after_all, pieces, resolvers, pieces_fit, pieces_refused};
+ghost use Rattle.std.specs.Prelude.{◌-◌, ◌^◌, ◌<◌, map};
+ghost use Rattle.archive_shape_canonical.specs.FirstFit.{present};
+ghost use Rattle.archive_forms_laws.specs.Serializing.{HasState};
 ghost use Rattle.archive_forms_writing.specs.Steps.{StepTakes, StepWrites};
 ghost use Rattle.archive_hash_writing.specs.Standing.{standing};
+ghost use Rattle.archive_hash_writing.specs.Calls.{LaysPresent};
 
 use archive_forms_writing::ArchiveWith;
 use archive_shape::{Allocator, Error, Writer};
@@ -29,11 +28,7 @@ pub(crate) fn serialize_present_each<
     requires state { HasState S.pos S.known serializer.old }
     requires takes { StepTakes F.Fn S.Writer step (present (map standing table.now)) }
     requires writes { StepWrites F.Fn (λ q. q.0) (A.spelling with.now) S.Writer step }
-    ensures { (st : State) → IsAt S.pos S.known serializer.old st
-        → let xs = present (map standing table.now) in
-        LaysData S.Writer serializer.old serializer.new (pieces (A.spelling with.now) xs st)
-        (λ all. (all.items ≡ resolvers (A.spelling with.now) xs st) × pieces_fit (A.spelling with.now) xs st × IsAt S.pos S.known serializer.new (state_after_all (A.spelling with.now) xs st))
-        (pieces_refused (A.spelling with.now) xs st) result }
+    ensures { LaysPresent (A.spelling with.now) S.Writer table.now serializer.old serializer.new result }
 {
     let Ok(mut all) = Vec::with_capacity(serializer.memory(), count) else {
         return Err(Error::OutOfMemory);

@@ -1,9 +1,8 @@
 //! Finds the places of the items of a table by their hashes.
-ghost use Rattle.std.specs.Prelude.{◌≡◌, ◌<◌, ◌^◌, [], All, length, MatchResult};
-ghost use Rattle.archive_hash_probing.specs.ShapeCanonical.FirstFit.{fitted_from, written_controls};
-ghost use Rattle.archive_shape_writing.specs.declared.error.Error.TheVariants.{OutOfMemory};
+ghost use Rattle.std.specs.Prelude.{◌<◌, ◌^◌, length};
+ghost use Rattle.archive_hash_writing.specs.Calls.{FitsHashes};
 
-use archive_hash_checking::control_count;
+use archive_hash_maps::checking::control_count;
 use archive_hash_probing::{Scan, write_controls};
 use archive_shape::Error;
 use std::alloc::Global;
@@ -19,12 +18,7 @@ pub(crate) struct Fitted {
 pub(crate) fn fit<G: Scan>(alloc: Global, capacity: usize, hashes: &[u64]) -> Result<Fitted, Error>
     requires small { capacity < 2 ^ 32 }
     requires room { length hashes.now < capacity }
-    ensures { MatchResult result
-        (λ fitted. (fitted.places.items ≡ fitted_from capacity [] hashes.now)
-        × (fitted.controls.items ≡ written_controls capacity hashes.now (fitted_from capacity [] hashes.now))
-        × (length fitted.places.items ≡ length hashes.now)
-        × All (λ place. place < capacity) fitted.places.items)
-        (λ e. e ≡ OutOfMemory) }
+    ensures { FitsHashes capacity hashes.now result }
 {
     let Ok(mut controls) = vec![in alloc; 255u8; control_count(capacity)] else {
         return Err(Error::OutOfMemory);

@@ -1,9 +1,6 @@
 //! Computes the hashes of items.
-ghost use Rattle.std.specs.Prelude.{◌≡◌, MatchResult};
-ghost use Rattle.std.specs.Fn.{FnReturnsAt};
-ghost use Rattle.archive_shape_writing.specs.declared.error.Error.TheVariants.{OutOfMemory};
 ghost use Rattle.archive_forms_writing.specs.Steps.{IsElement};
-ghost use Rattle.archive_hash_writing.specs.Claimed.{AreHashesOf};
+ghost use Rattle.archive_hash_writing.specs.Calls.{HashesItems};
 
 use archive_shape::Error;
 use std::alloc::Global;
@@ -15,8 +12,7 @@ pub fn hash_items<T, H: Fn(&T) -> u64>(
     hash: H,
 ) -> Result<Vec<u64>, Error>
     requires { (x : _) → IsElement items.now x.now → H.pre hash x }
-    ensures { MatchResult result (λ hashes. AreHashesOf
-        (λ x h. FnReturnsAt H.Fn hash x h) items.now hashes.items) (λ e. e ≡ OutOfMemory) }
+    ensures { HashesItems H.Fn hash items.now result }
 {
     let Ok(mut hashes) = Vec::with_capacity(alloc, items.len()) else {
         return Err(Error::OutOfMemory);

@@ -1,15 +1,15 @@
 //! Writes tables of the items that an iterator returns.
-ghost use Rattle.std.specs.Prelude.{◌≡◌, ◌-◌, ◌^◌, ◌<◌, List};
-ghost use Rattle.std.specs.Fn.{FnReturnsAt};
-ghost use Rattle.std.specs.Iterator.{Drains, IsFiniteIterable};
-ghost use Rattle.archive_forms_writing.specs.FormsLaws.Serializing.{HasState, SerializesBy};
-ghost use Rattle.archive_forms_writing.specs.Steps.{IsElement, StepTakes, StepWrites};
-ghost use Rattle.archive_hash_writing.specs.Claimed.{WritesTable};
+ghost use Rattle.std.specs.Prelude.{◌≡◌, ◌-◌, ◌^◌, ◌<◌};
+ghost use Rattle.std.specs.Iterator.{IsFiniteIterable};
+ghost use Rattle.archive_forms_laws.specs.Serializing.{HasState, SerializesBy};
+ghost use Rattle.archive_forms_writing.specs.Steps.{StepWrites};
+ghost use Rattle.archive_hash_writing.specs.Calls.{StepTakesItems, MayHashItems, WritesItems};
 
 use crate::hashes::hash_items;
 use crate::tables::serialize_hashed;
-use archive_forms_borrowed::collect_items;
-use archive_forms_writing::{Archive, ArchiveWith, ByArchive, Serialize, serialize_element};
+use archive_forms_writing::{
+    Archive, ArchiveWith, ByArchive, Serialize, collect_items, serialize_element,
+};
 use archive_hash_maps::HashTableResolver;
 use archive_hash_probing::{Group, Scan};
 use archive_shape::{Allocator, Error, Writer};
@@ -46,14 +46,11 @@ pub fn serialize_from_iter_scan_with_each<
     requires room { S.failures serializer.old < 2 ^ 64 - 1 }
     requires state { HasState S.pos S.known serializer.old }
     requires ends { IsFiniteIterable I.into_iter_gives I.IntoIter.can_next I.IntoIter.remaining iter }
-    requires takes { (it : I.IntoIter) (xs : List T) → I.into_iter_gives iter it
-        → Drains I.IntoIter.next_gives it xs → StepTakes F.Fn S.Writer step xs }
+    requires takes { StepTakesItems I.into_iter_gives I.IntoIter.next_gives iter F.Fn S.Writer step }
     requires writes { StepWrites F.Fn (λ q. q.0) (A.spelling with.now) S.Writer step }
-    requires hashes { (it : I.IntoIter) (xs : List T) → I.into_iter_gives iter it
-        → Drains I.IntoIter.next_gives it xs → (x : _) → IsElement xs x.now → H.pre hash x }
-    ensures { WritesTable (λ xs. (it : I.IntoIter) × I.into_iter_gives iter it
-        × Drains I.IntoIter.next_gives it xs) load_factor A.Archived.shape (A.spelling with.now) S.Writer
-        (λ x h. FnReturnsAt H.Fn hash x h) len serializer.old serializer.new result }
+    requires hashes { MayHashItems I.into_iter_gives I.IntoIter.next_gives iter (H.pre hash) }
+    ensures { WritesItems I.into_iter_gives I.IntoIter.next_gives iter load_factor A.Archived.shape
+        (A.spelling with.now) S.Writer H.Fn hash len serializer.old serializer.new result }
 {
     if load_factor.0 == 0 || load_factor.0 > load_factor.1 {
         return Err(Error::InvalidLoadFactor);
@@ -98,14 +95,11 @@ pub fn serialize_from_iter_scan_each<
     requires room { S.failures serializer.old < 2 ^ 64 - 1 }
     requires state { HasState S.pos S.known serializer.old }
     requires ends { IsFiniteIterable I.into_iter_gives I.IntoIter.can_next I.IntoIter.remaining iter }
-    requires takes { (it : I.IntoIter) (xs : List T) → I.into_iter_gives iter it
-        → Drains I.IntoIter.next_gives it xs → StepTakes F.Fn S.Writer step xs }
+    requires takes { StepTakesItems I.into_iter_gives I.IntoIter.next_gives iter F.Fn S.Writer step }
     requires writes { StepWrites F.Fn (λ q. q.0) T.spelling S.Writer step }
-    requires hashes { (it : I.IntoIter) (xs : List T) → I.into_iter_gives iter it
-        → Drains I.IntoIter.next_gives it xs → (x : _) → IsElement xs x.now → H.pre hash x }
-    ensures { WritesTable (λ xs. (it : I.IntoIter) × I.into_iter_gives iter it
-        × Drains I.IntoIter.next_gives it xs) load_factor T.Archived.shape T.spelling S.Writer
-        (λ x h. FnReturnsAt H.Fn hash x h) len serializer.old serializer.new result }
+    requires hashes { MayHashItems I.into_iter_gives I.IntoIter.next_gives iter (H.pre hash) }
+    ensures { WritesItems I.into_iter_gives I.IntoIter.next_gives iter load_factor T.Archived.shape T.spelling
+        S.Writer H.Fn hash len serializer.old serializer.new result }
 {
     serialize_from_iter_scan_with_each::<G, T, ByArchive, S, I, H, F>(
         &ByArchive,
@@ -136,11 +130,9 @@ pub fn serialize_from_iter_scan<
     requires room { S.failures serializer.old < 2 ^ 64 - 1 }
     requires state { HasState S.pos S.known serializer.old }
     requires ends { IsFiniteIterable I.into_iter_gives I.IntoIter.can_next I.IntoIter.remaining iter }
-    requires hashes { (it : I.IntoIter) (xs : List T) → I.into_iter_gives iter it
-        → Drains I.IntoIter.next_gives it xs → (x : _) → IsElement xs x.now → H.pre hash x }
-    ensures { WritesTable (λ xs. (it : I.IntoIter) × I.into_iter_gives iter it
-        × Drains I.IntoIter.next_gives it xs) load_factor T.Archived.shape T.spelling S.Writer
-        (λ x h. FnReturnsAt H.Fn hash x h) len serializer.old serializer.new result }
+    requires hashes { MayHashItems I.into_iter_gives I.IntoIter.next_gives iter (H.pre hash) }
+    ensures { WritesItems I.into_iter_gives I.IntoIter.next_gives iter load_factor T.Archived.shape T.spelling
+        S.Writer H.Fn hash len serializer.old serializer.new result }
 {
     serialize_from_iter_scan_each::<G, T, S, I, H, _>(
         iter,
@@ -172,11 +164,9 @@ pub fn serialize_from_iter<
     requires room { S.failures serializer.old < 2 ^ 64 - 1 }
     requires state { HasState S.pos S.known serializer.old }
     requires ends { IsFiniteIterable I.into_iter_gives I.IntoIter.can_next I.IntoIter.remaining iter }
-    requires hashes { (it : I.IntoIter) (xs : List T) → I.into_iter_gives iter it
-        → Drains I.IntoIter.next_gives it xs → (x : _) → IsElement xs x.now → H.pre hash x }
-    ensures { WritesTable (λ xs. (it : I.IntoIter) × I.into_iter_gives iter it
-        × Drains I.IntoIter.next_gives it xs) load_factor T.Archived.shape T.spelling S.Writer
-        (λ x h. FnReturnsAt H.Fn hash x h) len serializer.old serializer.new result }
+    requires hashes { MayHashItems I.into_iter_gives I.IntoIter.next_gives iter (H.pre hash) }
+    ensures { WritesItems I.into_iter_gives I.IntoIter.next_gives iter load_factor T.Archived.shape T.spelling
+        S.Writer H.Fn hash len serializer.old serializer.new result }
 {
     serialize_from_iter_scan::<Group, S, T, I, H>(iter, len, load_factor, hash, serializer)
 }

@@ -1,6 +1,7 @@
 //! Writes hash tables of the items that an iterator returns.
 #![tactic(auto)]
 
+pub mod index;
 mod spelling;
 
 pub use spelling::{each_is_filled, samples_are_spelled, tables_are_written};

@@ -1,8 +1,6 @@
 //! Arranges the items of a table by their places.
-ghost use Rattle.std.specs.Prelude.{◌≡◌, ◌<◌, All, length, map, MatchResult};
-ghost use Rattle.archive_hash_probing.specs.ShapeCanonical.FirstFit.{placed};
-ghost use Rattle.archive_shape_writing.specs.declared.error.Error.TheVariants.{OutOfMemory};
-ghost use Rattle.archive_hash_writing.specs.Standing.{standing};
+ghost use Rattle.std.specs.Prelude.{◌≡◌, ◌<◌, All, length};
+ghost use Rattle.archive_hash_writing.specs.Calls.{PlacesItems};
 
 use archive_shape::Error;
 use std::alloc::Global;
@@ -17,8 +15,7 @@ pub(crate) fn place_items<'a, T>(
 ) -> Result<Vec<Option<&'a T>>, Error>
     requires even { length places.now ≡ length items.now }
     requires within { All (λ place. place < capacity) places.now }
-    ensures { MatchResult result (λ table. map standing table.items
-        ≡ placed capacity places.now items.now) (λ e. e ≡ OutOfMemory) }
+    ensures { PlacesItems capacity places.now items.now result }
 {
     let Ok(mut table) = vec![in alloc; None; capacity] else {
         return Err(Error::OutOfMemory);

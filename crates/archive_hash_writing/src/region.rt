@@ -1,12 +1,6 @@
 //! Writes the region of a table: its buckets and its controls.
-ghost use Rattle.std.specs.Prelude.{◌≡◌, ◌+◌, ◌-◌, ◌*◌, ◌^◌, ◌<◌, length, map, MatchOption};
-ghost use Rattle.archive_shape.specs.ShapeLayout.Shape.{size_of};
-ghost use Rattle.archive_hash_probing.specs.ShapeCanonical.FirstFit.{present};
-ghost use Rattle.archive_forms_writing.specs.FormsLaws.State.{State};
-ghost use Rattle.archive_forms_writing.specs.FormsLaws.Regions.{resolvers};
-ghost use Rattle.archive_hash_writing.specs.Tables.{state_after_items};
-ghost use Rattle.archive_hash_writing.specs.Standing.{standing};
-ghost use Rattle.archive_hash_writing.specs.Laying.{LaysRegion};
+ghost use Rattle.std.specs.Prelude.{◌-◌, ◌^◌, ◌<◌, length};
+ghost use Rattle.archive_hash_writing.specs.Calls.{FindsControls, AreMade, WritesRegion};
 
 use crate::buckets::write_buckets;
 use archive_forms_writing::{ArchiveWith, align};
@@ -20,9 +14,7 @@ const LAST_POSITION: usize = u32::MAX as usize;
 fn controls_position<T: Portable>(from: usize, places: usize, controls: usize) -> Option<usize>
     requires places { 0 < places }
     requires controls { 0 < controls }
-    ensures { MatchOption result
-        ((from < 2 ^ 32) × (from + places * size_of T.shape + controls < 2 ^ 64) → ⊥)
-        (λ to. (to ≡ from + places * size_of T.shape) × (from < 2 ^ 32) × (to + controls < 2 ^ 64)) }
+    ensures { FindsControls T.shape from places controls result }
 {
     if from > LAST_POSITION {
         return None;
@@ -44,11 +36,9 @@ pub(crate) fn write_region<'a, T, A: ArchiveWith<T>, S: Writer + Allocator>(
     requires room { S.failures serializer.old < 2 ^ 64 - 1 }
     requires places { 0 < length table.now }
     requires controls { 0 < length controls.now }
-    requires made { (st : State) × (kept.now ≡ resolvers (A.spelling with.now)
-        (present (map standing table.now)) st) }
-    ensures { (st : State) → kept.now ≡ resolvers (A.spelling with.now) (present (map standing table.now)) st
-        → S.pos serializer.old ≡ (state_after_items A.Archived.shape (A.spelling with.now) (map standing table.now) st).pos
-        → LaysRegion A.Archived.shape (A.spelling with.now) S.Writer (map standing table.now) controls.now st serializer.old serializer.new result }
+    requires made { AreMade (A.spelling with.now) table.now kept.now }
+    ensures { WritesRegion (A.spelling with.now) table.now kept.now A.Archived.shape S.Writer controls.now
+        serializer.old serializer.new result }
 {
     let from = match align(serializer, A::Archived::ALIGN) {
         Ok(from) => from,

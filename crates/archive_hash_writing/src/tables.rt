@@ -1,6 +1,6 @@
 //! Writes tables of items and their hashes.
 ghost use Rattle.std.specs.Prelude.{◌≡◌, ◌-◌, ◌^◌, ◌<◌, length};
-ghost use Rattle.archive_forms_writing.specs.FormsLaws.Serializing.{HasState, Serializes};
+ghost use Rattle.archive_forms_laws.specs.Serializing.{HasState, Serializes};
 ghost use Rattle.archive_forms_writing.specs.Steps.{StepTakes, StepWrites};
 ghost use Rattle.archive_hash_probing.specs.Loads.{IsLoadFactor};
 ghost use Rattle.archive_hash_writing.specs.Claimed.{written_spelling};

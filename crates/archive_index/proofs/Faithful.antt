@@ -2,18 +2,18 @@
 use Rattle.std.proofs.Common.{◌∙◌, ℕ, [], refl, sym, ap}
 use Rattle.std.specs.Prelude.{Vec}
 use Rattle.std.specs.Global.{Global}
-use Rattle.archive_shape.specs.ShapeLayout.Shape.{Shape}
-use Rattle.archive_shape.specs.ShapeLayout.Value.{Value}
+use Rattle.archive_shape_layout.specs.Shape.{Shape}
+use Rattle.archive_shape_layout.specs.Value.{Value}
 use Rattle.archive_forms_values.specs.Tuples.{tuple2}
-use Rattle.archive_forms_writing.specs.FormsLaws.Spelling.{Spelling}
-use Rattle.archive_forms_writing.specs.FormsLaws.Forms.{seen_as}
-use Rattle.archive_forms_writing.specs.FormsLaws.Fields.{tuple2_spelling, unit_spelling}
+use Rattle.archive_forms_laws.specs.Spelling.{Spelling}
+use Rattle.archive_forms_laws.specs.Forms.{seen_as}
+use Rattle.archive_forms_laws.specs.Fields.{tuple2_spelling, unit_spelling}
 use Rattle.archive_forms.specs.Faithful.{IsFaithful}
 use Rattle.archive_forms.specs.Reading.{reads_as, reads_in, reads_all, reads_tuple2, reads_key}
 use Rattle.archive_forms.proofs.Faithful.{all_faithful, tuple2_faithful}
 use Rattle.archive_hash.specs.Owned.{key_entries}
-use Rattle.archive_index_spelling.specs.Resolvers.{pairs_spelling}
-use Rattle.archive_index_spelling.proofs.Seen.{map_seen}
+use Rattle.archive_hash_writing.specs.IndexResolvers.{pairs_spelling}
+use Rattle.archive_hash_writing.proofs.IndexSeen.{map_seen}
 use Rattle.archive_index.specs.Sets.{unit_shape}
 
 module _ {A R : Type 0} (hash : A → ℕ) (k : Shape) (keys : Spelling A R) (reads : Value → A → Type 0) (same : IsFaithful keys reads) where

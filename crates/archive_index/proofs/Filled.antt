@@ -2,53 +2,53 @@
 use Rattle.std.proofs.Common.{◌≡◌, ◌∙◌, ℕ, zero, suc, ◌+◌, ◌^◌, ◌<◌, ◌≤◌, Some, List, [], ◌∷◌, length, map, filter, get_or, slice_index, nat_lt, refl, ap, sym, subst, arith}
 use Rattle.std.specs.List.{All, range_with_len}
 use Rattle.std.proofs.lemmas.List.FromFn.{length-range_with_len, get_or-range_with_len}
-use Rattle.archive_forms_writing.specs.FormsLaws.SpellingLaws.{KnowsAll}
-use Rattle.archive_shape.specs.ShapeLayout.Bytes.{word_at, target_from}
-use Rattle.archive_shape.specs.ShapeLayout.Shape.{Shape}
-use Rattle.archive_shape.specs.ShapeLayout.Shape.Shape.{index_map}
-use Rattle.archive_shape.specs.ShapeLayout.Shape.Pointee.{slice}
-use Rattle.archive_shape.specs.ShapeLayout.Value.{Value, Values, count_values}
-use Rattle.archive_shape.specs.ShapeLayout.Value.Value.{natural, group}
-use Rattle.archive_shape.specs.ShapeLayout.Value.Values.{no_values, more_values}
-use Rattle.archive_shape.specs.ShapeLayout.Content.{Names, Part, made, members}
-use Rattle.archive_shape.specs.ShapeLayout.Content.Item.{place}
-use Rattle.archive_shape.specs.ShapeLayout.Content.Part.{at, behind, buckets}
-use Rattle.archive_shape.specs.ShapeLayout.Content.Label.{same, second}
-use Rattle.archive_shape.specs.ShapeLayout.Holds.{Region, Visit, Holds, HasRoot}
-use Rattle.archive_shape.specs.ShapeLayout.Path.{value_in}
-use Rattle.archive_shape.proofs.ShapeLayout.Unique.{by_claimed}
-use Rattle.archive_shape.proofs.ShapeLayout.Visited.{claimed_first, claimed_inside}
-use Rattle.archive_shape.proofs.ShapeLayout.Windows.{word_within}
+use Rattle.archive_forms_laws.specs.SpellingLaws.{KnowsAll}
+use Rattle.archive_shape_layout.specs.Bytes.{word_at, target_from}
+use Rattle.archive_shape_layout.specs.Shape.{Shape}
+use Rattle.archive_shape_layout.specs.Shape.Shape.{index_map}
+use Rattle.archive_shape_layout.specs.Shape.Pointee.{slice}
+use Rattle.archive_shape_layout.specs.Value.{Value, Values, count_values}
+use Rattle.archive_shape_layout.specs.Value.Value.{natural, group}
+use Rattle.archive_shape_layout.specs.Value.Values.{no_values, more_values}
+use Rattle.archive_shape_layout.specs.Content.{Names, Part, made, members}
+use Rattle.archive_shape_layout.specs.Content.Item.{place}
+use Rattle.archive_shape_layout.specs.Content.Part.{at, behind, buckets}
+use Rattle.archive_shape_layout.specs.Content.Label.{same, second}
+use Rattle.archive_shape_layout.specs.Holds.{Region, Visit, Holds, HasRoot}
+use Rattle.archive_shape_layout.specs.Path.{value_in}
+use Rattle.archive_shape_layout.proofs.Unique.{by_claimed}
+use Rattle.archive_shape_layout.proofs.Visited.{claimed_first, claimed_inside}
+use Rattle.archive_shape_layout.proofs.Windows.{word_within}
 use Rattle.archive_shape.specs.Key.{HeldAt}
-use Rattle.archive_hash_probing.specs.ShapeCanonical.FirstFit.{capacity_for, control_at, fitted_from, item_at, written_controls}
-use Rattle.archive_hash_probing.specs.ShapeCanonical.Seen.{keys_alone}
-use Rattle.archive_hash_probing.specs.ShapeCanonical.Settled.{Fit, IsSettled, naturals}
-use Rattle.archive_hash_probing.specs.ShapeCanonical.Sharing.{erased}
-use Rattle.archive_hash_probing.specs.ShapeCanonical.Canonical.{CanonicalArchive}
-use Rattle.archive_hash_probing.proofs.ShapeCanonical.Choosing.{choices, IsFilledAs, settled_chosen}
+use Rattle.archive_shape_canonical.specs.FirstFit.{capacity_for, control_at, fitted_from, item_at, written_controls}
+use Rattle.archive_shape_canonical.specs.Seen.{keys_alone}
+use Rattle.archive_shape_canonical.specs.Settled.{Fit, IsSettled, naturals}
+use Rattle.archive_shape_canonical.specs.Sharing.{erased}
+use Rattle.archive_shape_canonical.specs.Canonical.{CanonicalArchive}
+use Rattle.archive_shape_canonical.proofs.Choosing.{choices, IsFilledAs, settled_chosen}
 use Rattle.archive_forms_values.specs.Tuples.{tuple2}
 use Rattle.archive_forms_values.specs.Parts.{both}
 use Rattle.archive_forms_values.proofs.Contents.{sized_is}
 use Rattle.archive_forms_values.proofs.Inside.{one_held}
 use Rattle.archive_forms_values.proofs.Pointed.{made_same}
 use Rattle.archive_forms_values.proofs.Targets.{first_word}
-use Rattle.archive_forms_writing.specs.FormsLaws.Sample.{number_shape, number_spelling}
-use Rattle.archive_forms_writing.specs.FormsLaws.State.{State, initial}
-use Rattle.archive_forms_writing.specs.FormsLaws.Spelling.{Spelling, state_after}
-use Rattle.archive_forms_writing.specs.FormsLaws.Regions.{values, plain_values}
+use Rattle.archive_forms_laws.specs.Sample.{number_shape, number_spelling}
+use Rattle.archive_forms_laws.specs.State.{State, initial}
+use Rattle.archive_forms_laws.specs.Spelling.{Spelling, state_after}
+use Rattle.archive_forms_laws.specs.Regions.{values, plain_values}
 use Rattle.archive_hash_probing.proofs.FirstFits.{written_low}
-use Rattle.archive_hash.specs.HashWalking.Tables.{Buckets, full_places, item_position, item_positions, IsTableAt, AreItemsAt}
-use Rattle.archive_hash.specs.HashWalking.Tables.IsTableAt.{has_none, has_buckets}
-use Rattle.archive_hash.proofs.HashWalking.Read.{table_is_read, one_table}
-use Rattle.archive_hash.specs.HashWriting.Fitted.{capacity_of, places_of, by_place, controls_of}
-use Rattle.archive_hash.proofs.HashWriting.Rooted.{root_settled}
-use Rattle.archive_hash.proofs.HashWriting.SpellingPresent.{item_own}
-use Rattle.archive_hash.proofs.HashWriting.SpellingFitting.{length-places, places_below, are_apart}
-use Rattle.archive_hash.proofs.HashWriting.Tagged.{IsTagOf, item_tagged}
-use Rattle.archive_hash.proofs.HashWriting.WrittenItems.{HasItem, items_lie}
-use Rattle.archive_index_spelling.specs.Maps.{numbers, IsKeptBy}
-use Rattle.archive_index_spelling.proofs.Maps.{filled_content, numbers_are}
-use Rattle.archive_index_spelling.proofs.Places.{number_held}
+use Rattle.archive_hash_maps.specs.Tables.{Buckets, full_places, item_position, item_positions, IsTableAt, AreItemsAt}
+use Rattle.archive_hash_maps.specs.Tables.IsTableAt.{has_none, has_buckets}
+use Rattle.archive_hash_maps.proofs.Read.{table_is_read, one_table}
+use Rattle.archive_hash_writing.specs.Fitted.{capacity_of, places_of, by_place, controls_of}
+use Rattle.archive_hash_writing.proofs.Rooted.{root_settled}
+use Rattle.archive_hash_writing.proofs.SpellingPresent.{item_own}
+use Rattle.archive_hash_writing.proofs.SpellingFitting.{length-places, places_below, are_apart}
+use Rattle.archive_hash_writing.proofs.Tagged.{IsTagOf, item_tagged}
+use Rattle.archive_hash_writing.proofs.WrittenItems.{HasItem, items_lie}
+use Rattle.archive_hash_writing.specs.IndexMaps.{numbers, IsKeptBy}
+use Rattle.archive_hash_writing.proofs.IndexMaps.{filled_content, numbers_are}
+use Rattle.archive_hash_writing.proofs.IndexPlaces.{number_held}
 use Rattle.archive_index.specs.Maps.{IndexMap, IsMapAt, count_of, entry_position}
 use Rattle.archive_index.proofs.Read.{map_is_read, read_so}
 

@@ -5,31 +5,31 @@ use Rattle.std.specs.List.{AllZip}
 use Rattle.std.specs.Ordering.{is_eq}
 use Rattle.std.specs.declared.cmp.Ordering.{Ordering}
 use Rattle.std.proofs.lemmas.List.{length-map, get_or_default}
-use Rattle.archive_shape.specs.ShapeLayout.Bytes.{word_at}
-use Rattle.archive_shape.specs.ShapeLayout.Shape.{Shape, size_of}
-use Rattle.archive_shape.specs.ShapeLayout.Shape.Shape.{index_map}
-use Rattle.archive_shape.specs.ShapeLayout.Value.Value.{group}
-use Rattle.archive_shape.specs.ShapeLayout.Value.Values.{no_values}
-use Rattle.archive_shape.specs.ShapeLayout.Value.{count_values}
-use Rattle.archive_shape.specs.ShapeLayout.Content.{Names}
-use Rattle.archive_shape.specs.ShapeLayout.Holds.{root_position}
+use Rattle.archive_shape_layout.specs.Bytes.{word_at}
+use Rattle.archive_shape_layout.specs.Shape.{Shape, size_of}
+use Rattle.archive_shape_layout.specs.Shape.Shape.{index_map}
+use Rattle.archive_shape_layout.specs.Value.Value.{group}
+use Rattle.archive_shape_layout.specs.Value.Values.{no_values}
+use Rattle.archive_shape_layout.specs.Value.{count_values}
+use Rattle.archive_shape_layout.specs.Content.{Names}
+use Rattle.archive_shape_layout.specs.Holds.{root_position}
 use Rattle.archive_shape.specs.Key.{HeldAt}
 use Rattle.archive_forms_values.specs.Tuples.{tuple2}
 use Rattle.archive_forms_values.specs.Parts.{both}
 use Rattle.archive_forms_values.proofs.Rooted.{root_held}
-use Rattle.archive_forms_writing.specs.FormsLaws.Sample.{number_shape}
-use Rattle.archive_forms_writing.specs.FormsLaws.State.{State}
-use Rattle.archive_forms_writing.specs.FormsLaws.Spelling.{Spelling}
-use Rattle.archive_forms_writing.specs.FormsLaws.Fields.{tuple2_spelling}
+use Rattle.archive_forms_laws.specs.Sample.{number_shape}
+use Rattle.archive_forms_laws.specs.State.{State}
+use Rattle.archive_forms_laws.specs.Spelling.{Spelling}
+use Rattle.archive_forms_laws.specs.Fields.{tuple2_spelling}
 use Rattle.archive_hash_probing.specs.Inputs.{input_hash}
-use Rattle.archive_hash.specs.HashWalking.Tables.{Buckets, no_buckets, full_places, item_position, IsTableAt}
-use Rattle.archive_hash.specs.HashWalking.Tables.IsTableAt.{has_none, has_buckets}
-use Rattle.archive_hash.specs.HashWalking.Places.{LooksUp}
-use Rattle.archive_hash.specs.HashWalking.Places.LooksUp.{has_no_places, has_places}
-use Rattle.archive_hash.specs.HashWalking.Maps.{KeySays}
-use Rattle.archive_hash.proofs.HashWalking.Found.{none_looked_up}
-use Rattle.archive_hash.specs.HashWriting.Fitted.{places_of}
-use Rattle.archive_hash.proofs.HashWriting.SpellingFitting.{above}
+use Rattle.archive_hash_maps.specs.Tables.{Buckets, no_buckets, full_places, item_position, IsTableAt}
+use Rattle.archive_hash_maps.specs.Tables.IsTableAt.{has_none, has_buckets}
+use Rattle.archive_hash_maps.specs.Places.{LooksUp}
+use Rattle.archive_hash_maps.specs.Places.LooksUp.{has_no_places, has_places}
+use Rattle.archive_hash_maps.specs.Maps.{KeySays}
+use Rattle.archive_hash_maps.proofs.Found.{none_looked_up}
+use Rattle.archive_hash_writing.specs.Fitted.{places_of}
+use Rattle.archive_hash_writing.proofs.SpellingFitting.{above}
 use Rattle.archive_hash.specs.Answering.{HasEntry, first_with}
 use Rattle.archive_hash.proofs.Answering.{entry_held, hashes_small, place_found}
 use Rattle.archive_index.specs.Maps.{count_of, entry_position, adjacent}
@@ -135,7 +135,7 @@ module _ {A B R P : Type 0} (k v : Shape) (knows others : Names → Type 0) (key
             ap (option_map (word_at bytes)) (none_looked_up says number_shape hash n found (subst (λ (b : Buckets). LooksUp says number_shape b hash found n) empty looks));
       }
     where
-      no_elements : (vs : Rattle.archive_shape.specs.ShapeLayout.Value.Values) → (λ (x : Rattle.archive_shape.specs.ShapeLayout.Value.Value). x) (group no_values) ≡ group vs → vs ≡ no_values
+      no_elements : (vs : Rattle.archive_shape_layout.specs.Value.Values) → (λ (x : Rattle.archive_shape_layout.specs.Value.Value). x) (group no_values) ≡ group vs → vs ≡ no_values
       no_elements vs e = cc
   map_answers (e ∷ es) m =
       let pos = root_position (length bytes) (index_map k v) in

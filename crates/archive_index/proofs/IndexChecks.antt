@@ -3,19 +3,19 @@ use Rattle.std.proofs.Common.{◌≡◌, ◌≢◌, ℕ, ◌+◌, ◌*◌, ◌-�
 use Rattle.std.specs.Int.{w32}
 use Rattle.std.specs.Prelude.{false}
 use Rattle.std.proofs.lemmas.Bool.{eq-eqb}
-use Rattle.archive_shape.specs.ShapeLayout.Bytes.{window, word_at, target_from}
-use Rattle.archive_shape.specs.ShapeLayout.Shape.{Shape, size_of}
-use Rattle.archive_shape.specs.ShapeLayout.Shape.Shape.{number, index_map}
-use Rattle.archive_shape.specs.ShapeLayout.Shape.Pointee.{slice}
-use Rattle.archive_shape.specs.ShapeLayout.Value.{Value, Values}
-use Rattle.archive_shape.specs.ShapeLayout.Value.Values.{more_values}
-use Rattle.archive_shape.specs.ShapeLayout.Content.{Names, Part, content_of, made, item, place, buckets_span, shape_content, table_parts}
-use Rattle.archive_shape.specs.ShapeLayout.Content.Part.{at, behind, buckets}
-use Rattle.archive_shape.specs.ShapeLayout.Content.Label.{second, whole}
-use Rattle.archive_shape.specs.ShapeLayout.Content.Content.{plain}
-use Rattle.archive_shape.specs.ShapeLayout.Holds.{Region, Visit, OpenShared, HoldAll}
-use Rattle.archive_shape.specs.ShapeLayout.Holds.HoldAll.{holds_none, holds_more}
-use Rattle.archive_shape.specs.ShapeLayout.Holds.Holds.{holds_plain}
+use Rattle.archive_shape_layout.specs.Bytes.{window, word_at, target_from}
+use Rattle.archive_shape_layout.specs.Shape.{Shape, size_of}
+use Rattle.archive_shape_layout.specs.Shape.Shape.{number, index_map}
+use Rattle.archive_shape_layout.specs.Shape.Pointee.{slice}
+use Rattle.archive_shape_layout.specs.Value.{Value, Values}
+use Rattle.archive_shape_layout.specs.Value.Values.{more_values}
+use Rattle.archive_shape_layout.specs.Content.{Names, Part, content_of, made, item, place, buckets_span, shape_content, table_parts}
+use Rattle.archive_shape_layout.specs.Content.Part.{at, behind, buckets}
+use Rattle.archive_shape_layout.specs.Content.Label.{second, whole}
+use Rattle.archive_shape_layout.specs.Content.Content.{plain}
+use Rattle.archive_shape_layout.specs.Holds.{Region, Visit, OpenShared, HoldAll}
+use Rattle.archive_shape_layout.specs.Holds.HoldAll.{holds_none, holds_more}
+use Rattle.archive_shape_layout.specs.Holds.Holds.{holds_plain}
 use Rattle.archive_shape.specs.Range.{Range}
 use Rattle.archive_shape.specs.Questions.{AreAnswered, FirstUnanswered, is_some, questions_of, questions_of_table}
 use Rattle.archive_shape.specs.PartFault.{PartFault, HasTable}
@@ -23,17 +23,17 @@ use Rattle.archive_shape.specs.PartFault.PartFault.{fault_unanswered, fault_plai
 use Rattle.archive_shape.specs.PartFault.PartsFault.{fault_here}
 use Rattle.archive_shape.specs.Kept.{Kept, range_of}
 use Rattle.archive_shape.specs.Checks.{Checks}
-use Rattle.archive_shape_writing.specs.declared.error.Error.{Error}
-use Rattle.archive_shape_writing.specs.declared.error.Error.TheVariants.{InvalidSubtreePointer}
+use Rattle.archive_shape_layout.specs.declared.error.Error.{Error}
+use Rattle.archive_shape_layout.specs.declared.error.Error.TheVariants.{InvalidSubtreePointer}
 use Rattle.archive_shape.proofs.Ordered.{none_checked, checked_records, more_checked, later_fault, one_checked}
 use Rattle.archive_shape.proofs.Wholes.{whole_checked}
-use Rattle.archive_hash_checking.proofs.FormsLaws.TextContent.{followed}
-use Rattle.archive_hash_checking.specs.FormsValues.Tuples.{tuple2}
-use Rattle.archive_shape.proofs.ShapeLayout.Windows.{word_within}
-use Rattle.archive_hash_checking.proofs.FormsValues.Chosen.{chosen, not_chosen}
-use Rattle.archive_hash_checking.specs.Heads.{HasHead}
-use Rattle.archive_hash_checking.specs.declared.head.TableHead.{TableHead}
-use Rattle.archive_hash_checking.proofs.HeadChecks.{own_len, own_cap, own_target, some_own, less_own}
+use Rattle.archive_forms_laws.proofs.TextContent.{followed}
+use Rattle.archive_forms_values.specs.Tuples.{tuple2}
+use Rattle.archive_shape_layout.proofs.Windows.{word_within}
+use Rattle.archive_forms_values.proofs.Chosen.{chosen, not_chosen}
+use Rattle.archive_hash_maps.specs.Heads.{HasHead}
+use Rattle.archive_hash_maps.specs.declared.checking.head.TableHead.{TableHead}
+use Rattle.archive_hash_maps.proofs.HeadChecks.{own_len, own_cap, own_target, some_own, less_own}
 
 leads_on : (o : Option ℕ) (t : ℕ) → o ≡ Some t → is_some o ≡ true
 leads_on o t e = rw e refl

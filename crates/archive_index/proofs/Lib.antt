@@ -1,9 +1,7 @@
 pub mod Faithful
 pub mod Filled
-pub mod Hash
 pub mod InOrder
 pub mod IndexChecks
-pub mod IndexSpelling
 pub mod LookedUp
 pub mod Pairs
 pub mod Places

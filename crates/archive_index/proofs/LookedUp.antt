@@ -2,8 +2,8 @@
 use denote.Ref.{Bor}
 use Rattle.std.proofs.Common.{◌≡◌, ℕ, List, Some}
 use Rattle.archive_shape.specs.declared.references.refs.Ref.{Ref}
-use Rattle.archive_hash.specs.HashWalking.Places.{item_at}
-use Rattle.archive_hash.proofs.HashWalking.Lookups.{item_is}
+use Rattle.archive_hash_maps.specs.Places.{item_at}
+use Rattle.archive_hash_maps.proofs.Lookups.{item_is}
 
 pub full_is :
     {K V : Type 0} (bytes : Bor (List ℕ)) (i p q : ℕ) (key : Ref K) (value : Ref V)

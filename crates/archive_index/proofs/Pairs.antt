@@ -1,18 +1,18 @@
 -- The index map of entries is that of their keys and values.
 use Rattle.std.proofs.Common.{◌≡◌, ℕ, List, map, refl, ap, Option}
-use Rattle.archive_shape.specs.ShapeLayout.Shape.{Shape}
+use Rattle.archive_shape_layout.specs.Shape.{Shape}
 use Rattle.archive_forms_values.specs.Tuples.{tuple2}
-use Rattle.archive_forms_writing.specs.FormsLaws.Spelling.{Spelling}
-use Rattle.archive_forms_writing.specs.FormsLaws.Forms.{seen_as}
-use Rattle.archive_forms_writing.specs.FormsLaws.Fields.{tuple2_spelling}
-use Rattle.archive_forms_writing.proofs.FormsLaws.Agreeing.{Said, said}
-use Rattle.archive_forms_borrowed.specs.declared.collections.entry.EntryAdapter.{EntryAdapter}
-use Rattle.archive_forms_borrowed.specs.declared.collections.entry.EntryResolver.{EntryResolver}
-use Rattle.archive_forms_borrowed.specs.Entries.{entry_spelling}
+use Rattle.archive_forms_laws.specs.Spelling.{Spelling}
+use Rattle.archive_forms_laws.specs.Forms.{seen_as}
+use Rattle.archive_forms_laws.specs.Fields.{tuple2_spelling}
+use Rattle.archive_forms_laws.proofs.Agreeing.{Said, said}
+use Rattle.archive_forms_writing.specs.declared.collections.entry.EntryAdapter.{EntryAdapter}
+use Rattle.archive_forms_writing.specs.declared.collections.entry.EntryResolver.{EntryResolver}
+use Rattle.archive_forms_writing.specs.Entries.{entry_spelling}
 use Rattle.archive_hash.specs.Given.{entry_of}
-use Rattle.archive_index_spelling.proofs.Seen.{map_seen}
-use Rattle.archive_index_spelling.specs.declared.resolver.IndexMapResolver.{IndexMapResolver}
-use Rattle.archive_index_spelling.specs.Resolvers.{written_map, resolver_of, positions_of}
+use Rattle.archive_hash_writing.proofs.IndexSeen.{map_seen}
+use Rattle.archive_hash_writing.specs.declared.index.resolver.IndexMapResolver.{IndexMapResolver}
+use Rattle.archive_hash_writing.specs.IndexResolvers.{written_map, resolver_of, positions_of}
 
 pub pairs_said : {A B R Q : Type 0} (load : ℕ × ℕ) (k v : Shape) (keys : Spelling A R) (vals : Spelling B Q) (hs : List ℕ) (es : List (EntryAdapter A B))
     → said (written_map load (tuple2 k v) (entry_spelling k keys v vals) hs) es ≡ said (seen_as (map entry_of) (written_map load (tuple2 k v) (tuple2_spelling k keys v vals) hs)) es

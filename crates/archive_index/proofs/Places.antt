@@ -1,23 +1,23 @@
 -- A table of the numbers of entries is one of numbers, which are below how many there are.
 use Rattle.std.proofs.Common.{◌≡◌, ℕ, suc, ◌+◌, ◌-◌, ◌*◌, ◌<◌, ◌≤◌, nat_lt, Bool, true, false, cond, List, [], ◌∷◌, ◌++◌, take, Some, refl, sym, ap, subst, ◌∙◌, arith, add-zero}
-use Rattle.archive_shape.specs.ShapeLayout.Bytes.{window, word_at}
-use Rattle.archive_shape.specs.ShapeLayout.Value.{Value, Values}
-use Rattle.archive_shape.specs.ShapeLayout.Value.Value.{natural, group}
-use Rattle.archive_shape.specs.ShapeLayout.Value.Values.{no_values}
-use Rattle.archive_shape.specs.ShapeLayout.Content.{Names, Part, Content, made, choose, place_content, tagged_items, buckets_content, buckets_span, control_count, members}
-use Rattle.archive_shape.specs.ShapeLayout.Content.Item.{item, place}
-use Rattle.archive_shape.specs.ShapeLayout.Content.Part.{at, buckets, place_at}
-use Rattle.archive_shape.specs.ShapeLayout.Content.Label.{leaf, whole}
-use Rattle.archive_shape.specs.ShapeLayout.Content.Content.{claimed, illegal}
-use Rattle.archive_shape.specs.ShapeLayout.Holds.{Region, Visit, OpenShared, Holds, HoldAll}
-use Rattle.archive_shape.specs.ShapeLayout.Holds.Holds.{holds_plain, holds_claimed}
-use Rattle.archive_shape.specs.ShapeLayout.Holds.HoldAll.{holds_none, holds_more}
-use Rattle.archive_shape.proofs.ShapeLayout.Unique.{by_plain, by_claimed}
+use Rattle.archive_shape_layout.specs.Bytes.{window, word_at}
+use Rattle.archive_shape_layout.specs.Value.{Value, Values}
+use Rattle.archive_shape_layout.specs.Value.Value.{natural, group}
+use Rattle.archive_shape_layout.specs.Value.Values.{no_values}
+use Rattle.archive_shape_layout.specs.Content.{Names, Part, Content, made, choose, place_content, tagged_items, buckets_content, buckets_span, control_count, members}
+use Rattle.archive_shape_layout.specs.Content.Item.{item, place}
+use Rattle.archive_shape_layout.specs.Content.Part.{at, buckets, place_at}
+use Rattle.archive_shape_layout.specs.Content.Label.{leaf, whole}
+use Rattle.archive_shape_layout.specs.Content.Content.{claimed, illegal}
+use Rattle.archive_shape_layout.specs.Holds.{Region, Visit, OpenShared, Holds, HoldAll}
+use Rattle.archive_shape_layout.specs.Holds.Holds.{holds_plain, holds_claimed}
+use Rattle.archive_shape_layout.specs.Holds.HoldAll.{holds_none, holds_more}
+use Rattle.archive_shape_layout.proofs.Unique.{by_plain, by_claimed}
 use Rattle.archive_shape.proofs.Inverted.{held_is_known}
 use Rattle.archive_shape.proofs.Questions.{tested_known}
-use Rattle.archive_shape.proofs.ShapeLayout.Windows.{word_within}
-use Rattle.archive_forms_writing.specs.FormsLaws.Sample.{number_shape}
-use Rattle.archive_index_spelling.proofs.Places.{AreBelow, number_content}
+use Rattle.archive_shape_layout.proofs.Windows.{word_within}
+use Rattle.archive_forms_laws.specs.Sample.{number_shape}
+use Rattle.archive_hash_writing.proofs.IndexPlaces.{AreBelow, number_content}
 
 chosen : (b : Bool) (x y : Content) → b ≡ true → choose b x y ≡ x
 unfolding choose

@@ -2,42 +2,42 @@
 use Rattle.std.proofs.Common.{◌≡◌, ◌∙◌, ℕ, suc, ◌+◌, ◌*◌, ◌<◌, ◌≤◌, ◌==◌, Bool, true, false, nat_lt, List, [], ◌∷◌, ◌++◌, length, Some, All, refl, ap, sym, subst, arith, eqb-true, eq-eqb, ltb-true}
 use Rattle.std.proofs.lemmas.List.Elements.{All-nil, All-cons}
 use Rattle.std.specs.Prelude.{⊤}
-use Rattle.archive_forms_writing.specs.FormsLaws.SpellingLaws.{KnowsAll}
-use Rattle.archive_shape.specs.ShapeLayout.Bytes.{window, word_at, target_from}
-use Rattle.archive_shape.specs.ShapeLayout.Shape.{Shape, size_of}
-use Rattle.archive_shape.specs.ShapeLayout.Shape.Shape.{table, index_map}
-use Rattle.archive_shape.specs.ShapeLayout.Shape.Pointee.{slice}
-use Rattle.archive_shape.specs.ShapeLayout.Value.{Value, Values}
-use Rattle.archive_shape.specs.ShapeLayout.Value.Value.{natural, group}
-use Rattle.archive_shape.specs.ShapeLayout.Value.Values.{no_values, more_values}
-use Rattle.archive_shape.specs.ShapeLayout.Content.{Names, Part, Content, content_of, made, members, choose, shape_content, table_parts}
-use Rattle.archive_shape.specs.ShapeLayout.Content.Item.{item, place}
-use Rattle.archive_shape.specs.ShapeLayout.Content.Part.{at, behind, buckets}
-use Rattle.archive_shape.specs.ShapeLayout.Content.Label.{same, second, whole}
-use Rattle.archive_shape.specs.ShapeLayout.Content.Content.{plain}
-use Rattle.archive_shape.specs.ShapeLayout.Holds.{Region, Visit, OpenShared, Holds, HoldAll, end_after}
-use Rattle.archive_shape.specs.ShapeLayout.Holds.Holds.{holds_plain}
-use Rattle.archive_shape.specs.ShapeLayout.Holds.HoldAll.{holds_none, holds_more}
-use Rattle.archive_shape.specs.ShapeLayout.Visited.{ClaimedAfter}
-use Rattle.archive_shape.proofs.ShapeLayout.Unique.{by_plain, by_claimed, one_list}
-use Rattle.archive_shape.proofs.ShapeLayout.Visited.{claimed_front, claimed_later, claimed_inside}
-use Rattle.archive_shape.proofs.ShapeLayout.Windows.{word_within}
+use Rattle.archive_forms_laws.specs.SpellingLaws.{KnowsAll}
+use Rattle.archive_shape_layout.specs.Bytes.{window, word_at, target_from}
+use Rattle.archive_shape_layout.specs.Shape.{Shape, size_of}
+use Rattle.archive_shape_layout.specs.Shape.Shape.{table, index_map}
+use Rattle.archive_shape_layout.specs.Shape.Pointee.{slice}
+use Rattle.archive_shape_layout.specs.Value.{Value, Values}
+use Rattle.archive_shape_layout.specs.Value.Value.{natural, group}
+use Rattle.archive_shape_layout.specs.Value.Values.{no_values, more_values}
+use Rattle.archive_shape_layout.specs.Content.{Names, Part, Content, content_of, made, members, choose, shape_content, table_parts}
+use Rattle.archive_shape_layout.specs.Content.Item.{item, place}
+use Rattle.archive_shape_layout.specs.Content.Part.{at, behind, buckets}
+use Rattle.archive_shape_layout.specs.Content.Label.{same, second, whole}
+use Rattle.archive_shape_layout.specs.Content.Content.{plain}
+use Rattle.archive_shape_layout.specs.Holds.{Region, Visit, OpenShared, Holds, HoldAll, end_after}
+use Rattle.archive_shape_layout.specs.Holds.Holds.{holds_plain}
+use Rattle.archive_shape_layout.specs.Holds.HoldAll.{holds_none, holds_more}
+use Rattle.archive_shape_layout.specs.Visited.{ClaimedAfter}
+use Rattle.archive_shape_layout.proofs.Unique.{by_plain, by_claimed, one_list}
+use Rattle.archive_shape_layout.proofs.Visited.{claimed_front, claimed_later, claimed_inside}
+use Rattle.archive_shape_layout.proofs.Windows.{word_within}
 use Rattle.archive_shape.proofs.Inverted.{IsKnown, held_is_known}
 use Rattle.archive_shape.proofs.Questions.{tested_known, followed_known}
 use Rattle.archive_shape.specs.Key.{HeldAt}
 use Rattle.archive_forms_values.proofs.Contents.{slice_is}
 use Rattle.archive_forms_values.proofs.Targets.{first_word}
 use Rattle.archive_forms_values.specs.Tuples.{tuple2}
-use Rattle.archive_forms_writing.proofs.FormsLaws.TextContent.{followed, chosen_no}
+use Rattle.archive_forms_laws.proofs.TextContent.{followed, chosen_no}
 use Rattle.archive_forms_values.specs.Parts.{AreElements, both}
 use Rattle.archive_forms_values.proofs.Inside.{none_held}
 use Rattle.archive_forms_values.proofs.Pointed.{elements_stand, made_whole}
-use Rattle.archive_hash.specs.HashWalking.Tables.{Buckets, AreItemsAt, item_positions, full_places}
-use Rattle.archive_hash.proofs.HashWalking.Read.{table_is_read, one_table}
-use Rattle.archive_hash.proofs.HashWalking.Roots.{table_count}
-use Rattle.archive_forms_writing.specs.FormsLaws.Sample.{number_shape}
+use Rattle.archive_hash_maps.specs.Tables.{Buckets, AreItemsAt, item_positions, full_places}
+use Rattle.archive_hash_maps.proofs.Read.{table_is_read, one_table}
+use Rattle.archive_hash_maps.proofs.Roots.{table_count}
+use Rattle.archive_forms_laws.specs.Sample.{number_shape}
 use Rattle.archive_index.specs.Maps.{IndexMap, count_of, MapIsRead, OneMap}
-use Rattle.archive_index_spelling.proofs.Places.{AreBelow, number_held}
+use Rattle.archive_hash_writing.proofs.IndexPlaces.{AreBelow, number_held}
 use Rattle.archive_index.proofs.Places.{places_as_numbers}
 
 chosen : (b : Bool) (x y : Content) → b ≡ true → choose b x y ≡ x
@@ -180,7 +180,7 @@ module _ (k v : Shape) (knows others : Names → Type 0) (bytes : List ℕ) (pos
       let own_within = h.own_within in
       let as_table : content_of h.names bytes (at pos (table number_shape)) ≡ plain same (buckets target len cap (item number_shape) ∷ []) =
       chosen_no _ _ _ (λ e. not_none (sym (ap (λ n. n == 0) len_of_table) ∙ e))
-      ∙ (λ i. choose (nat_lt (len_of_table i) (cap_of_table i)) (Rattle.archive_shape.specs.ShapeLayout.Content.following (target_from pos (offset_of_table i)) (λ t. plain same (buckets t (len_of_table i) (cap_of_table i) (item number_shape) ∷ []))) Rattle.archive_shape.specs.ShapeLayout.Content.Content.illegal)
+      ∙ (λ i. choose (nat_lt (len_of_table i) (cap_of_table i)) (Rattle.archive_shape_layout.specs.Content.following (target_from pos (offset_of_table i)) (λ t. plain same (buckets t (len_of_table i) (cap_of_table i) (item number_shape) ∷ []))) Rattle.archive_shape_layout.specs.Content.Content.illegal)
       ∙ chosen _ _ _ tested.0 ∙ followed _ target _ table_leads.1 in
       let entries = by_claimed h.names bytes (slice_is h.names bytes start (tuple2 k v) len) two.holds in
       let inner = claimed_inside entries.regions_are two.claimed in

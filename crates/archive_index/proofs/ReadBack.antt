@@ -1,11 +1,11 @@
 -- Entries that are read back as their pairs, or by their keys.
 use Rattle.std.proofs.Common.{◌≡◌, ℕ, ◌+◌, ◌≤◌, List, [], ◌∷◌, Ok, Err, Result, refl, sym, subst}
 use Rattle.std.specs.Prelude.{⊤}
-use Rattle.archive_shape.specs.ShapeLayout.Shape.{Shape, size_of}
-use Rattle.archive_shape.specs.ShapeLayout.Shape.Shapes.{no_shapes, more_shapes}
-use Rattle.archive_shape.specs.ShapeLayout.Value.{Value}
-use Rattle.archive_shape.specs.ShapeLayout.Content.{Names}
-use Rattle.archive_shape_writing.specs.declared.error.Error.{Error}
+use Rattle.archive_shape_layout.specs.Shape.{Shape, size_of}
+use Rattle.archive_shape_layout.specs.Shape.Shapes.{no_shapes, more_shapes}
+use Rattle.archive_shape_layout.specs.Value.{Value}
+use Rattle.archive_shape_layout.specs.Content.{Names}
+use Rattle.archive_shape_layout.specs.declared.error.Error.{Error}
 use Rattle.archive_forms_values.specs.Tuples.{tuple2}
 use Rattle.archive_forms_values.specs.Parts.{HasValue, both}
 use Rattle.archive_forms_values.specs.Fields.{Field, field, field_position}
@@ -13,7 +13,7 @@ use Rattle.archive_forms_values.proofs.Held.{fields_at}
 use Rattle.archive_forms.specs.Deserializing.{IsReadAt, DeserializesBy}
 use Rattle.archive_forms.specs.Reading.{reads_tuple2, reads_key}
 use Rattle.archive_forms.proofs.Fields.{first_ends, field_ends, field_read, none_read, tuple_read, key_read}
-use Rattle.archive_hash.proofs.HashWalking.Entries.{entry_parts}
+use Rattle.archive_hash_maps.proofs.Entries.{entry_parts}
 use Rattle.archive_index.specs.Sets.{unit_shape}
 
 -- there is a value at a position, which ends at or before another

@@ -2,24 +2,24 @@
 use Rattle.std.proofs.Common.{◌≡◌, ◌∙◌, ℕ, ◌+◌, ◌++◌, ◌≤◌, ◌<◌, List, length, Option, Result, Ok, Err, refl, sym, ap, subst, arith, le_refl, inl, inr, ◌⊎◌, ⊎_elim, ◌^◌}
 use Rattle.std.specs.Prelude.{MatchResult}
 use Rattle.std.proofs.lemmas.List.FromFn.{length-range_with_len}
-use Rattle.archive_shape.specs.ShapeLayout.Shape.{Shape}
-use Rattle.archive_shape.specs.ShapeLayout.Shape.Shape.{index_map}
-use Rattle.archive_shape.specs.ShapeLayout.Edit.{Spares}
+use Rattle.archive_shape_layout.specs.Shape.{Shape}
+use Rattle.archive_shape_layout.specs.Shape.Shape.{index_map}
+use Rattle.archive_shape_layout.specs.Edit.{Spares}
 use Rattle.archive_shape.specs.Bytes.{overwrite}
 use Rattle.archive_shape.proofs.Spared.{spares_overwritten}
-use Rattle.archive_shape_writing.specs.declared.error.Error.{Error}
-use Rattle.archive_shape_writing.specs.declared.error.Error.TheVariants.{LengthTooLarge}
+use Rattle.archive_shape_layout.specs.declared.error.Error.{Error}
+use Rattle.archive_shape_layout.specs.declared.error.Error.TheVariants.{LengthTooLarge}
 use Rattle.archive_forms_values.proofs.Joined.{overwrites_joined}
-use Rattle.archive_forms_writing.specs.FormsLaws.Spelling.{Spelling}
-use Rattle.archive_forms_writing.specs.FormsLaws.Serializing.{Resolves}
-use Rattle.archive_forms_writing.specs.FormsLaws.Links.{link_bytes, LinkFits, LinkRefused}
-use Rattle.archive_forms_writing.proofs.FormsLaws.Links.{length-link}
-use Rattle.archive_hash.specs.HashMaps.Resolving.{own_bytes, capacity, IsWithinLimits, IsRefused}
-use Rattle.archive_hash.specs.HashMaps.Resolving.IsRefused.{has_no_load, has_many_places, is_far}
-use Rattle.archive_hash.proofs.HashWriting.SpellingTables.{length-own}
-use Rattle.archive_index_spelling.specs.Maps.{numbers}
-use Rattle.archive_index_spelling.specs.declared.resolver.IndexMapResolver.{IndexMapResolver}
-use Rattle.archive_index_spelling.specs.Resolvers.{pairs_spelling}
+use Rattle.archive_forms_laws.specs.Spelling.{Spelling}
+use Rattle.archive_forms_laws.specs.Serializing.{Resolves}
+use Rattle.archive_forms_laws.specs.Links.{link_bytes, LinkFits, LinkRefused}
+use Rattle.archive_forms_laws.proofs.Links.{length-link}
+use Rattle.archive_hash_maps.specs.Resolving.{own_bytes, capacity, IsWithinLimits, IsRefused}
+use Rattle.archive_hash_maps.specs.Resolving.IsRefused.{has_no_load, has_many_places, is_far}
+use Rattle.archive_hash_writing.proofs.SpellingTables.{length-own}
+use Rattle.archive_hash_writing.specs.IndexMaps.{numbers}
+use Rattle.archive_hash_writing.specs.declared.index.resolver.IndexMapResolver.{IndexMapResolver}
+use Rattle.archive_hash_writing.specs.IndexResolvers.{pairs_spelling}
 
 module _ (len : ℕ) (load : ℕ × ℕ) (to entries : Option ℕ) (pos start : ℕ) (old : List ℕ) (room : start + 16 ≤ length old) where
   -- what a call that writes the map's own bytes ensures

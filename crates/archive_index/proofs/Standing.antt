@@ -1,20 +1,20 @@
 -- Where the entries of an index map are read to stand.
 use Rattle.std.proofs.Common.{◌≡◌, ◌∙◌, ℕ, ◌+◌, ◌*◌, ◌-◌, ◌^◌, ◌<◌, ◌≤◌, ◌==◌, min, Bool, true, false, List, length, Some, All, refl, ap, sym, subst, arith, eqb-true, eq-eqb, mul-le-mul_right}
 use Rattle.std.specs.Prelude.{slice_index_or}
-use Rattle.archive_forms_writing.specs.FormsLaws.SpellingLaws.{KnowsAll}
-use Rattle.archive_shape.specs.ShapeLayout.Bytes.{word_at}
-use Rattle.archive_shape.specs.ShapeLayout.Shape.{Shape, size_of}
-use Rattle.archive_shape.specs.ShapeLayout.Shape.Shape.{table, index_map}
-use Rattle.archive_shape.specs.ShapeLayout.Value.{Value}
-use Rattle.archive_shape.specs.ShapeLayout.Content.{Names}
+use Rattle.archive_forms_laws.specs.SpellingLaws.{KnowsAll}
+use Rattle.archive_shape_layout.specs.Bytes.{word_at}
+use Rattle.archive_shape_layout.specs.Shape.{Shape, size_of}
+use Rattle.archive_shape_layout.specs.Shape.Shape.{table, index_map}
+use Rattle.archive_shape_layout.specs.Value.{Value}
+use Rattle.archive_shape_layout.specs.Content.{Names}
 use Rattle.archive_shape.specs.Key.{HeldAt}
 use Rattle.archive_forms_values.specs.Tuples.{tuple2}
 use Rattle.archive_forms_values.specs.Parts.{HasValue, PointsTo, AreElements, both}
-use Rattle.archive_hash.specs.HashWalking.Tables.{item_positions}
-use Rattle.archive_hash.proofs.HashWalking.Entries.{entry_parts}
-use Rattle.archive_hash.proofs.HashWalking.Lookups.{items_there}
-use Rattle.archive_hash.proofs.HashWalking.Roots.{table_count}
-use Rattle.archive_forms_writing.specs.FormsLaws.Sample.{number_shape}
+use Rattle.archive_hash_maps.specs.Tables.{item_positions}
+use Rattle.archive_hash_maps.proofs.Entries.{entry_parts}
+use Rattle.archive_hash_maps.proofs.Lookups.{items_there}
+use Rattle.archive_hash_maps.proofs.Roots.{table_count}
+use Rattle.archive_forms_laws.specs.Sample.{number_shape}
 use Rattle.archive_index.specs.Maps.{IndexMap, count_of, IsMapAt, IsMapOf, entry_position, entry_positions, adjacent}
 use Rattle.archive_index.proofs.Walk.{all_side, side_same}
 use Rattle.archive_index.proofs.Read.{map_is_read, table_there, one_map}

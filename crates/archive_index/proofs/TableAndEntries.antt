@@ -2,25 +2,25 @@
 use Rattle.std.proofs.Common.{◌≡◌, ◌∙◌, ℕ, ◌+◌, ◌^◌, ◌≤◌, List, [], ◌∷◌, ◌++◌, length, map, refl, sym, ap, ap₂, subst, arith, inl, inr, ◌⊎◌, Some, None, Ok, add-zero}
 use Rattle.std.specs.Prelude.{Result}
 use Rattle.std.proofs.lemmas.List.FromFn.{length-range_with_len}
-use Rattle.archive_shape.specs.ShapeLayout.Shape.{Shape}
-use Rattle.archive_hash_probing.specs.ShapeCanonical.FirstFit.{capacity_for}
-use Rattle.archive_shape_writing.specs.Writing.{WriterMembers}
-use Rattle.archive_shape_writing.specs.declared.error.Error.{Error}
-use Rattle.archive_shape_writing.specs.declared.error.Error.TheVariants.{InvalidLoadFactor, LengthTooLarge, OutOfMemory}
-use Rattle.archive_shape_writing.proofs.Joined.{written_none}
-use Rattle.archive_forms_writing.specs.FormsLaws.Sample.{number_shape, number_spelling}
-use Rattle.archive_forms_writing.specs.FormsLaws.State.{State}
-use Rattle.archive_forms_writing.specs.FormsLaws.Spelling.{Spelling, state_after}
-use Rattle.archive_forms_writing.specs.FormsLaws.Pointers.{slice_spelling}
-use Rattle.archive_forms_writing.specs.FormsLaws.Serializing.{IsAt, Serializes, of_data}
+use Rattle.archive_shape_layout.specs.Shape.{Shape}
+use Rattle.archive_shape_canonical.specs.FirstFit.{capacity_for}
+use Rattle.archive_shape_layout.specs.Writing.{WriterMembers}
+use Rattle.archive_shape_layout.specs.declared.error.Error.{Error}
+use Rattle.archive_shape_layout.specs.declared.error.Error.TheVariants.{InvalidLoadFactor, LengthTooLarge, OutOfMemory}
+use Rattle.archive_shape_layout.proofs.Joined.{written_none}
+use Rattle.archive_forms_laws.specs.Sample.{number_shape, number_spelling}
+use Rattle.archive_forms_laws.specs.State.{State}
+use Rattle.archive_forms_laws.specs.Spelling.{Spelling, state_after}
+use Rattle.archive_forms_laws.specs.Pointers.{slice_spelling}
+use Rattle.archive_forms_laws.specs.Serializing.{IsAt, Serializes, of_data}
 use Rattle.archive_forms_writing.proofs.Laying.{Wrote, Stops, wrote_both, stopped_after, stopped_first, stopped_before}
 use Rattle.archive_hash_probing.specs.Loads.{IsLoadFactor}
-use Rattle.archive_hash.specs.HashMaps.declared.map.resolving.HashTableResolver.{HashTableResolver}
-use Rattle.archive_hash.specs.HashWriting.Claimed.{AreHashesOf, written_spelling}
-use Rattle.archive_hash.proofs.HashWriting.SpellingFitting.{length-table}
-use Rattle.archive_index_spelling.specs.Maps.{numbers}
-use Rattle.archive_index_spelling.specs.declared.resolver.IndexMapResolver.{IndexMapResolver}
-use Rattle.archive_index_spelling.specs.Resolvers.{written_map}
+use Rattle.archive_hash_maps.specs.declared.map.resolving.HashTableResolver.{HashTableResolver}
+use Rattle.archive_hash_writing.specs.Claimed.{AreHashesOf, written_spelling}
+use Rattle.archive_hash_writing.proofs.SpellingFitting.{length-table}
+use Rattle.archive_hash_writing.specs.IndexMaps.{numbers}
+use Rattle.archive_hash_writing.specs.declared.index.resolver.IndexMapResolver.{IndexMapResolver}
+use Rattle.archive_hash_writing.specs.IndexResolvers.{written_map}
 
 module _ {A R W : Type 0} (load : ℕ × ℕ) (sh : Shape) (w : Spelling A R) (hashes : List ℕ) (s : WriterMembers W) where
   abbrev spelled : Spelling (List A) IndexMapResolver

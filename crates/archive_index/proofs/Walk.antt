@@ -3,8 +3,8 @@ use denote.Ref.{Bor}
 use Rattle.std.proofs.Common.{◌≡◌, ◌∙◌, ℕ, zero, suc, ◌+◌, ◌-◌, ◌*◌, ◌^◌, ◌<◌, List, ◌∷◌, length, map, All, refl, ap, sym, subst, arith}
 use Rattle.std.proofs.lemmas.List.Elements.{All-nil, All-cons, All-tail}
 use Rattle.archive_shape.specs.declared.references.refs.Ref.{Ref}
-use Rattle.archive_hash.specs.HashWalking.Maps.{pair_at}
-use Rattle.archive_hash.proofs.HashWalking.Lookups.{item_is}
+use Rattle.archive_hash_maps.specs.Maps.{pair_at}
+use Rattle.archive_hash_maps.proofs.Lookups.{item_is}
 use Rattle.archive_index.specs.Maps.{adjacent}
 
 pub walk_length : {A : Type 0} (f : ℕ → A) (size at n : ℕ) → length (map f (adjacent size at n)) ≡ n

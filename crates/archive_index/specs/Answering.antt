@@ -3,25 +3,25 @@ use Rattle.std.specs.Prelude.{◌≡◌, ℕ, ◌<◌, List, length, get_or, Opt
 use Rattle.std.specs.Option.{IsSomeAnd, option_map}
 use Rattle.std.specs.List.{AllZip}
 use Rattle.std.specs.declared.cmp.Ordering.{Ordering}
-use Rattle.archive_shape.specs.ShapeLayout.Bytes.{word_at}
-use Rattle.archive_shape.specs.ShapeLayout.Shape.{Shape}
-use Rattle.archive_shape.specs.ShapeLayout.Shape.Shape.{index_map}
-use Rattle.archive_shape.specs.ShapeLayout.Content.{Names}
-use Rattle.archive_shape.specs.ShapeLayout.Holds.{Region, Visit, root_position}
-use Rattle.archive_hash_probing.specs.ShapeCanonical.Settled.{Fit}
-use Rattle.archive_hash_probing.specs.ShapeCanonical.Sharing.{erased}
-use Rattle.archive_hash_probing.specs.ShapeCanonical.Canonical.{CanonicalArchive}
+use Rattle.archive_shape_layout.specs.Bytes.{word_at}
+use Rattle.archive_shape_layout.specs.Shape.{Shape}
+use Rattle.archive_shape_layout.specs.Shape.Shape.{index_map}
+use Rattle.archive_shape_layout.specs.Content.{Names}
+use Rattle.archive_shape_layout.specs.Holds.{Region, Visit, root_position}
+use Rattle.archive_shape_canonical.specs.Settled.{Fit}
+use Rattle.archive_shape_canonical.specs.Sharing.{erased}
+use Rattle.archive_shape_canonical.specs.Canonical.{CanonicalArchive}
 use Rattle.archive_forms_values.specs.Tuples.{tuple2}
 use Rattle.archive_forms_values.specs.Parts.{both}
-use Rattle.archive_forms_writing.specs.FormsLaws.Sample.{number_shape}
-use Rattle.archive_forms_writing.specs.FormsLaws.State.{State, Keys}
-use Rattle.archive_forms_writing.specs.FormsLaws.Spelling.{Spelling}
-use Rattle.archive_forms_writing.specs.FormsLaws.Fields.{tuple2_spelling}
+use Rattle.archive_forms_laws.specs.Sample.{number_shape}
+use Rattle.archive_forms_laws.specs.State.{State, Keys}
+use Rattle.archive_forms_laws.specs.Spelling.{Spelling}
+use Rattle.archive_forms_laws.specs.Fields.{tuple2_spelling}
 use Rattle.archive_hash_probing.specs.Inputs.{input_hash}
-use Rattle.archive_hash.specs.HashWalking.Places.{LooksUp}
-use Rattle.archive_hash.specs.HashWalking.Maps.{KeySays}
+use Rattle.archive_hash_maps.specs.Places.{LooksUp}
+use Rattle.archive_hash_maps.specs.Maps.{KeySays}
 use Rattle.archive_hash.specs.Answering.{HasEntry, first_with}
-use Rattle.archive_index_spelling.specs.Maps.{index_spelling}
+use Rattle.archive_hash_writing.specs.IndexMaps.{index_spelling}
 use Rattle.archive_index.specs.Maps.{IndexMap, IsMapAt, entry_position, entry_positions}
 
 module _ {A B R P : Type 0} (k v : Shape) (knows others : Names → Type 0) (keys : Spelling A R) (vals : Spelling B P) (bytes : List ℕ) where

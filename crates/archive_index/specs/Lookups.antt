@@ -1,14 +1,14 @@
 -- The results of look-ups of entries of index maps.
 use denote.Ref.{Bor}
 use Rattle.std.specs.Prelude.{ℕ, Bool, List, Option}
-use Rattle.archive_shape.specs.ShapeLayout.Bytes.{word_at}
-use Rattle.archive_shape.specs.ShapeLayout.Shape.{Shape}
-use Rattle.archive_shape.specs.ShapeLayout.Shape.Shapes.{no_shapes}
+use Rattle.archive_shape_layout.specs.Bytes.{word_at}
+use Rattle.archive_shape_layout.specs.Shape.{Shape}
+use Rattle.archive_shape_layout.specs.Shape.Shapes.{no_shapes}
 use Rattle.archive_shape.specs.declared.references.refs.Ref.{Ref}
-use Rattle.archive_forms_writing.specs.FormsLaws.Sample.{number_shape}
+use Rattle.archive_forms_laws.specs.Sample.{number_shape}
 use Rattle.archive_forms_values.specs.Fields.{field_position}
-use Rattle.archive_hash.specs.HashWalking.Places.{Answers}
-use Rattle.archive_hash.specs.HashWalking.Maps.{LooksUpHash, key_at, value_at, entry_at}
+use Rattle.archive_hash_maps.specs.Places.{Answers}
+use Rattle.archive_hash_maps.specs.Maps.{LooksUpHash, key_at, value_at, entry_at}
 use Rattle.archive_index.specs.Maps.{IndexMap, entry_position}
 
 module _ (bytes : List ℕ) (k v : Shape) (m : IndexMap) where

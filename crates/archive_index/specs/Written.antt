@@ -1,14 +1,14 @@
 -- The contracts of calls that write index maps.
 use Rattle.std.specs.Prelude.{◌≡◌, ℕ, List, Result}
-use Rattle.archive_shape.specs.ShapeLayout.Shape.{Shape}
-use Rattle.archive_shape_writing.specs.Writing.{WriterMembers}
-use Rattle.archive_shape_writing.specs.declared.error.Error.{Error}
+use Rattle.archive_shape_layout.specs.Shape.{Shape}
+use Rattle.archive_shape_layout.specs.Writing.{WriterMembers}
+use Rattle.archive_shape_layout.specs.declared.error.Error.{Error}
 use Rattle.archive_forms_values.specs.Tuples.{tuple2}
-use Rattle.archive_forms_writing.specs.FormsLaws.Spelling.{Spelling}
-use Rattle.archive_forms_writing.specs.FormsLaws.Fields.{tuple2_spelling}
-use Rattle.archive_hash.specs.HashWriting.Claimed.{WritesHashed}
-use Rattle.archive_index_spelling.specs.Resolvers.{written_map}
-use Rattle.archive_index_spelling.specs.declared.resolver.IndexMapResolver.{IndexMapResolver}
+use Rattle.archive_forms_laws.specs.Spelling.{Spelling}
+use Rattle.archive_forms_laws.specs.Fields.{tuple2_spelling}
+use Rattle.archive_hash_writing.specs.Claimed.{WritesHashed}
+use Rattle.archive_hash_writing.specs.IndexResolvers.{written_map}
+use Rattle.archive_hash_writing.specs.declared.index.resolver.IndexMapResolver.{IndexMapResolver}
 
 -- the index map of the entries that an iterator returned is written, with a hash of each
 abbrev pub WritesMap : {A R W : Type 0} → (List A → Type 0) → ℕ × ℕ → Shape → Spelling A R → WriterMembers W → (A → ℕ → Type 0) → ℕ → W → W → Result IndexMapResolver Error → Type 0

@@ -1,16 +1,16 @@
 //! The check of index maps, by their own bytes, their table and their entries.
 ghost use Rattle.std.specs.Prelude.{◌≡◌, ℕ, ◌+◌, ◌≤◌, length};
-ghost use Rattle.archive_shape.specs.ShapeLayout.Shape.{Shape};
-ghost use Rattle.archive_shape.specs.ShapeLayout.Shape.Shape.{index_map};
-ghost use Rattle.archive_shape.specs.ShapeLayout.Content.{Names};
-ghost use Rattle.archive_shape.specs.ShapeLayout.Content.Part.{at};
+ghost use Rattle.archive_shape_layout.specs.Shape.{Shape};
+ghost use Rattle.archive_shape_layout.specs.Shape.Shape.{index_map};
+ghost use Rattle.archive_shape_layout.specs.Content.{Names};
+ghost use Rattle.archive_shape_layout.specs.Content.Part.{at};
 ghost use Rattle.archive_shape.specs.Kept.{IsWithin};
 ghost use Rattle.archive_shape.specs.Checks.{Checks, Moves};
 ghost use Rattle.archive_shape.specs.Steps.{StepTakes, StepChecks};
-ghost use Rattle.archive_hash_checking.specs.FormsValues.Tuples.{tuple2};
+ghost use Rattle.archive_forms_values.specs.Tuples.{tuple2};
 
 use archive_forms_values::{check_elements_behind, read_target};
-use archive_hash_checking::{check_head, check_place_buckets};
+use archive_hash_maps::checking::{check_head, check_place_buckets};
 use archive_shape::{ArchiveContext, ArchivedU32, Error, Portable};
 
 /// Checks the index map at `pos`, whose entries are pairs of the type `T`. The map has sixteen own bytes: a table of

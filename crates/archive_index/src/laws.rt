@@ -1,16 +1,16 @@
 //! Laws of index maps that are written and read back. Each function below has no body: its contract is the law.
 ghost use Rattle.std.specs.Prelude.{ℕ, List, length};
-ghost use Rattle.archive_shape.specs.ShapeLayout.Shape.Shape.{index_map};
-ghost use Rattle.archive_shape.specs.ShapeLayout.Holds.{root_position};
-ghost use Rattle.archive_forms_writing.specs.FormsLaws.Fields.{unit_spelling};
-ghost use Rattle.archive_forms_writing.specs.FormsLaws.Forms.{seen_as};
+ghost use Rattle.archive_shape_layout.specs.Shape.Shape.{index_map};
+ghost use Rattle.archive_shape_layout.specs.Holds.{root_position};
+ghost use Rattle.archive_forms_laws.specs.Fields.{unit_spelling};
+ghost use Rattle.archive_forms_laws.specs.Forms.{seen_as};
 ghost use Rattle.archive_forms.specs.Faithful.{IsFaithful};
-ghost use Rattle.archive_hash.specs.HashWalking.Maps.{HashesTo};
+ghost use Rattle.archive_hash_maps.specs.Maps.{HashesTo};
 ghost use Rattle.archive_hash.specs.Owned.{key_entries};
 ghost use Rattle.archive_hash_probing.specs.Inputs.{input_hash};
 ghost use Rattle.archive_index.specs.Answering.{IsWrittenMap, AnswersInOrder};
 ghost use Rattle.archive_index.specs.Sets.{unit_shape};
-ghost use Rattle.archive_index_spelling.specs.Resolvers.{pairs_spelling};
+ghost use Rattle.archive_hash_writing.specs.IndexResolvers.{pairs_spelling};
 
 use crate::map::ArchivedIndexMap;
 use crate::set::ArchivedIndexSet;

@@ -8,17 +8,11 @@ pub mod map;
 pub mod set;
 mod writing;
 
-pub use archive_hash::{
-    LOAD_FACTOR, serialize_entries_with_each as serialize_hashed_entries_with_each,
-};
-pub use archive_index_spelling::IndexMapResolver;
+pub use archive_hash_writing::index::IndexMapResolver;
 pub use check::check_index_map_each;
 pub use map::{
     ArchivedIndexMap, Iter, Keys, Values, deserialize_index_map_each, map_is_read, one_map,
     search_entries,
 };
 pub use set::{ArchivedIndexSet, IndexSetResolver, deserialize_index_set_each};
-pub use writing::{
-    serialize_entries_with_each, serialize_from_iter_scan_each, serialize_map_from_iter,
-    serialize_set_from_iter,
-};
+pub use writing::{serialize_entries_with_each, serialize_from_iter_scan_each};

@@ -12,7 +12,7 @@ use Rattle.archive_shape.specs.PartFault.PartFault.{fault_plain}
 use Rattle.archive_shape.specs.PartFault.PartsFault.{fault_here}
 use Rattle.archive_shape.specs.Kept.{Kept}
 use Rattle.archive_shape.specs.Checks.{Checks}
-use Rattle.archive_shape_writing.specs.declared.error.Error.{Error}
+use Rattle.archive_shape_layout.specs.declared.error.Error.{Error}
 use Rattle.archive_shape.proofs.Questions.{shape_answered}
 use Rattle.archive_shape.proofs.Inverted.{IsKnown}
 

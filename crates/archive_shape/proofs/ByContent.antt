@@ -14,8 +14,8 @@ use Rattle.archive_shape.specs.Accepts.{Passes, PassesAll}
 use Rattle.archive_shape.specs.Questions.{AreAnswered, FirstUnanswered, questions_of, out_of_range}
 use Rattle.archive_shape.specs.PartFault.{PartFault, PartsFault, Entry, entry_at, Clash, HasTable, HasNoEntries, entries_size, counted_items, counted_as_usize}
 use Rattle.archive_shape.specs.PartFault.PartFault.{fault_unanswered, fault_plain, fault_claimed, fault_text, fault_text_behind, fault_total, fault_table, fault_entries, fault_again, fault_first}
-use Rattle.archive_shape_writing.specs.declared.error.Error.{Error}
-use Rattle.archive_shape_writing.specs.declared.error.Error.TheVariants.{InvalidUtf8, EntriesLengthMismatch}
+use Rattle.archive_shape_layout.specs.declared.error.Error.{Error}
+use Rattle.archive_shape_layout.specs.declared.error.Error.TheVariants.{InvalidUtf8, EntriesLengthMismatch}
 use Rattle.archive_shape.proofs.Refused.{answered_or_not, map_illegal}
 
 -- an index map has one table

@@ -7,8 +7,8 @@ use Rattle.archive_shape.specs.Questions.{FirstUnanswered, claim, out_of_range}
 use Rattle.archive_shape.specs.Questions.FirstUnanswered.{unanswered_here, unanswered_later}
 use Rattle.archive_shape.specs.Kept.{Kept, pushed, popped, started_again}
 use Rattle.archive_shape.specs.declared.checking.context.PushedRange.{PushedRange}
-use Rattle.archive_shape_writing.specs.declared.error.Error.{Error}
-use Rattle.archive_shape_writing.specs.declared.error.Error.TheVariants.{Unaligned, ExceededMaximumSubtreeDepth}
+use Rattle.archive_shape_layout.specs.declared.error.Error.{Error}
+use Rattle.archive_shape_layout.specs.declared.error.Error.TheVariants.{Unaligned, ExceededMaximumSubtreeDepth}
 
 pub one_error : (r : Result (Unit {0}) Error) (e d : Error) → r ≡ Err e → r ≡ Err d → e ≡ d
 one_error r e d h i = cc

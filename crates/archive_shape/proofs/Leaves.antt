@@ -24,7 +24,7 @@ use Rattle.archive_shape.specs.Questions.FirstUnanswered.{unanswered_here}
 use Rattle.archive_shape.specs.PartFault.PartFault.{fault_unanswered}
 use Rattle.archive_shape.specs.Kept.{Kept}
 use Rattle.archive_shape.specs.Checks.{Checks}
-use Rattle.archive_shape_writing.specs.declared.error.Error.TheVariants.{InvalidTag}
+use Rattle.archive_shape_layout.specs.declared.error.Error.TheVariants.{InvalidTag}
 
 -- a part without parts is accepted at every position, and what is kept stays as it is
 pub alone_checked :

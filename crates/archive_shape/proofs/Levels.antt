@@ -7,8 +7,8 @@ use Rattle.archive_shape.specs.Questions.{Question, FirstUnanswered}
 use Rattle.archive_shape.specs.Questions.FirstUnanswered.{unanswered_here}
 use Rattle.archive_shape.specs.PartFault.PartFault.{fault_unanswered}
 use Rattle.archive_shape.specs.Laws.{DeepChildIsRefused}
-use Rattle.archive_shape_writing.specs.declared.error.Error.{Error}
-use Rattle.archive_shape_writing.specs.declared.error.Error.TheVariants.{TooManyLevels}
+use Rattle.archive_shape_layout.specs.declared.error.Error.{Error}
+use Rattle.archive_shape_layout.specs.declared.error.Error.TheVariants.{TooManyLevels}
 
 -- a list of questions that is not left out
 asked : (k : Range) (e : Error) (b : Bool) (qs : List Question) → b ≡ false → FirstUnanswered k e qs → FirstUnanswered k e (cond b [] qs)

@@ -16,7 +16,6 @@ pub mod Questions
 pub mod Ranges
 pub mod Refused
 pub mod Sealed
-pub mod ShapeLayout
 pub mod Shared
 pub mod Spared
 pub mod Texts

@@ -13,8 +13,8 @@ use Rattle.archive_shape.specs.PartFault.PartFault.{fault_unanswered, fault_plai
 use Rattle.archive_shape.specs.PartFault.PartsFault.{fault_here, fault_later}
 use Rattle.archive_shape.specs.Questions.{out_of_range}
 use Rattle.archive_shape.specs.Laws.{OneFault}
-use Rattle.archive_shape_writing.specs.declared.error.Error.{Error}
-use Rattle.archive_shape_writing.specs.declared.error.Error.TheVariants.{InvalidUtf8, EntriesLengthMismatch}
+use Rattle.archive_shape_layout.specs.declared.error.Error.{Error}
+use Rattle.archive_shape_layout.specs.declared.error.Error.TheVariants.{InvalidUtf8, EntriesLengthMismatch}
 use Rattle.archive_shape.proofs.Inverted.{one_passing, one_list_passing}
 use Rattle.archive_shape.proofs.Shared.{one_entry, one_clash}
 use Rattle.archive_shape.proofs.Texts.{illegal_plain, illegal_claimed}

@@ -12,8 +12,8 @@ use Rattle.archive_shape.specs.PartFault.{PartFault, PartsFault}
 use Rattle.archive_shape.specs.PartFault.PartsFault.{fault_here, fault_later}
 use Rattle.archive_shape.specs.Kept.{Kept, Records, range_of, started_again, Advances, IsWithin}
 use Rattle.archive_shape.specs.Checks.{Checked, CheckedAll, ChecksAll}
-use Rattle.archive_shape_writing.specs.declared.error.Error.{Error}
-use Rattle.archive_shape_writing.specs.declared.error.Error.TheVariants.{OutOfMemory}
+use Rattle.archive_shape_layout.specs.declared.error.Error.{Error}
+use Rattle.archive_shape_layout.specs.declared.error.Error.TheVariants.{OutOfMemory}
 use Rattle.archive_shape.proofs.Ranges.{NestsBelow-append}
 use Rattle.archive_shape.specs.Steps.{Narrower}
 

@@ -19,7 +19,7 @@ use Rattle.archive_shape.specs.Range.{Range, InRange}
 use Rattle.archive_shape.specs.Accepts.{Passes}
 use Rattle.archive_shape.specs.Questions.{Question, AreAnswered, test, claim, questions_of, questions_of_node, questions_of_leaf, questions_of_controls, questions_of_buckets, pointee_span}
 use Rattle.archive_shape.specs.Laws.{AcceptedIsAnswered}
-use Rattle.archive_shape_writing.specs.declared.error.Error.{Error}
+use Rattle.archive_shape_layout.specs.declared.error.Error.{Error}
 use Rattle.archive_shape.proofs.Inverted.{IsKnown, passing_is_known, claim_answered}
 use Rattle.archive_shape.proofs.Questions.{AreAnswered-append, tested_known, shape_answered, child_answered, place_known}
 

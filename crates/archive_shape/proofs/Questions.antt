@@ -8,7 +8,7 @@ use Rattle.archive_shape_layout.specs.Content.Content.{illegal}
 use Rattle.archive_shape.specs.Range.{Range}
 use Rattle.archive_shape.specs.Questions.{Question, AreAnswered, leads, is_some, has_payload, questions_of_text, questions_of_shape}
 use Rattle.archive_shape.specs.Questions.Question.{test}
-use Rattle.archive_shape_writing.specs.declared.error.Error.TheVariants.{TooManyLevels}
+use Rattle.archive_shape_layout.specs.declared.error.Error.TheVariants.{TooManyLevels}
 use Rattle.archive_shape.proofs.Inverted.{IsKnown}
 
 pub AreAnswered-append : (k : Range) (xs ys : List Question) → AreAnswered k xs → AreAnswered k ys → AreAnswered k (xs ++ ys)

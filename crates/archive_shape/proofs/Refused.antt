@@ -19,7 +19,7 @@ use Rattle.archive_shape.specs.PartFault.{PartFault, PartsFault, HasTable, HasNo
 use Rattle.archive_shape.specs.PartFault.PartFault.{fault_unanswered, fault_plain, fault_claimed, fault_text, fault_text_behind, fault_total, fault_table, fault_entries, fault_again, fault_first}
 use Rattle.archive_shape.specs.PartFault.PartsFault.{fault_here, fault_later}
 use Rattle.archive_shape.specs.Laws.{FaultRefuses}
-use Rattle.archive_shape_writing.specs.declared.error.Error.{Error}
+use Rattle.archive_shape_layout.specs.declared.error.Error.{Error}
 use Rattle.archive_shape.proofs.Inverted.{known_content, plain_parts, claimed_parts, first_part, later_parts}
 use Rattle.archive_shape.proofs.QuestionedRegions.{accepted_answered}
 use Rattle.archive_shape.proofs.Shared.{again_refused, first_visited}

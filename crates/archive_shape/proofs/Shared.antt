@@ -13,7 +13,7 @@ use Rattle.archive_shape.specs.Accepts.{Passes}
 use Rattle.archive_shape.specs.PartFault.{Entry, entry_at, Differs, Clash}
 use Rattle.archive_shape.specs.PartFault.Differs.{other_shape, other_length}
 use Rattle.archive_shape.specs.PartFault.Clash.{differs, inside_itself}
-use Rattle.archive_shape_writing.specs.declared.error.Error.{Error}
+use Rattle.archive_shape_layout.specs.declared.error.Error.{Error}
 
 pub one_entry : (o : Option Entry) (x y : Entry) → o ≡ Some x → o ≡ Some y → x ≡ y
 one_entry o x y e f = cc

@@ -1,12 +1,14 @@
 -- What a check ensures.
 use Rattle.std.specs.Prelude.{◌≡◌, ◌≢◌, ℕ, List, Result, MatchResult, IfOk}
+use Rattle.archive_shape_layout.specs.Shape.{Shape}
 use Rattle.archive_shape_layout.specs.Content.{Names, Part}
+use Rattle.archive_shape_layout.specs.Content.Part.{at}
 use Rattle.archive_shape_layout.specs.Holds.{Visit, OpenShared, end_after}
 use Rattle.archive_shape.specs.Accepts.{Passes, PassesAll}
 use Rattle.archive_shape.specs.PartFault.{PartFault, PartsFault}
 use Rattle.archive_shape.specs.Kept.{Kept, Seen, Records, range_of, started_again, Advances}
-use Rattle.archive_shape_writing.specs.declared.error.Error.{Error}
-use Rattle.archive_shape_writing.specs.declared.error.Error.TheVariants.{OutOfMemory}
+use Rattle.archive_shape_layout.specs.declared.error.Error.{Error}
+use Rattle.archive_shape_layout.specs.declared.error.Error.TheVariants.{OutOfMemory}
 
 module _ (names : Names) (bytes : List ℕ) (inside : List OpenShared) (before : List Visit) where
   -- a part is accepted, and the context was started again after its last region
@@ -37,6 +39,11 @@ ChecksAll names bytes ps old result new =
     → MatchResult result
     (λ _. CheckedAll names bytes inside before ps old new)
     (λ e. e ≢ OutOfMemory → PartsFault names bytes inside before ps (range_of old) e)
+
+-- the check of a part at a position, under all names that its type knows; `kept` is what a context keeps
+abbrev pub ChecksAt : {C : Type 0} → (C → Kept) → (Names → Type 0) → List ℕ → ℕ → Shape → C → Result (Unit {0}) Error → C → Type 0
+ChecksAt kept knows bytes pos s old result new =
+    (names : Names) → knows names → Checks names bytes (at pos s) (kept old) result (kept new)
 
 -- what a check keeps of the context, for any names
 abbrev pub Moves : Kept → Result (Unit {0}) Error → Kept → Type 0

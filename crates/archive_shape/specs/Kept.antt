@@ -7,8 +7,8 @@ use Rattle.archive_shape.specs.PartFault.{Entry, entry_at, Differs}
 use Rattle.archive_shape.specs.declared.checking.context.PushedRange.{PushedRange}
 use Rattle.archive_shape.specs.declared.checking.context.ValidationState.{ValidationState}
 use Rattle.archive_shape.specs.declared.checking.context.ValidationState.TheVariants.{Started, Pending, Finished}
-use Rattle.archive_shape_writing.specs.declared.error.Error.{Error}
-use Rattle.archive_shape_writing.specs.declared.error.Error.TheVariants.{NotStarted, AlreadyFinished}
+use Rattle.archive_shape_layout.specs.declared.error.Error.{Error}
+use Rattle.archive_shape_layout.specs.declared.error.Error.TheVariants.{NotStarted, AlreadyFinished}
 
 -- the entry of each shared position that was seen
 abbrev pub Seen : Type 0

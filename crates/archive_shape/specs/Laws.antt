@@ -9,8 +9,8 @@ use Rattle.archive_shape.specs.Range.{Range}
 use Rattle.archive_shape.specs.Accepts.{Passes}
 use Rattle.archive_shape.specs.Questions.{questions_of, AreAnswered}
 use Rattle.archive_shape.specs.PartFault.{PartFault}
-use Rattle.archive_shape_writing.specs.declared.error.Error.{Error}
-use Rattle.archive_shape_writing.specs.declared.error.Error.TheVariants.{TooManyLevels}
+use Rattle.archive_shape_layout.specs.declared.error.Error.{Error}
+use Rattle.archive_shape_layout.specs.declared.error.Error.TheVariants.{TooManyLevels}
 
 -- a part with a fault is not accepted
 abbrev pub FaultRefuses : Type 0

@@ -1,5 +1,6 @@
 pub mod Accepts
 pub mod Bytes
+pub mod Calls
 pub mod Checks
 pub mod Kept
 pub mod Key
@@ -12,7 +13,5 @@ pub mod Pooling
 pub mod Questions
 pub mod Range
 pub mod Sealing
-pub mod ShapeLayout
-pub mod ShapeWriting
 pub mod Sharing
 pub mod Steps

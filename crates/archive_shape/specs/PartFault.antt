@@ -14,8 +14,8 @@ use Rattle.archive_shape_layout.specs.Holds.{Visit, OpenShared, open_at, visited
 use Rattle.archive_shape.specs.Range.{Range, narrowed_to}
 use Rattle.archive_shape.specs.Accepts.{Passes, PassesAll, range_after}
 use Rattle.archive_shape.specs.Questions.{questions_of, FirstUnanswered, AreAnswered, out_of_range}
-use Rattle.archive_shape_writing.specs.declared.error.Error.{Error}
-use Rattle.archive_shape_writing.specs.declared.error.Error.TheVariants.{InvalidUtf8, TypeMismatch, MetadataMismatch, CyclicSharedPointer, EntriesLengthMismatch}
+use Rattle.archive_shape_layout.specs.declared.error.Error.{Error}
+use Rattle.archive_shape_layout.specs.declared.error.Error.TheVariants.{InvalidUtf8, TypeMismatch, MetadataMismatch, CyclicSharedPointer, EntriesLengthMismatch}
 
 -- the pointee and the length at a shared position, and whether its check has ended
 pub record Entry : Type 0 where

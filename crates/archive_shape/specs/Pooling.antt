@@ -1,8 +1,8 @@
 -- What the calls of a pool do to the progress of a position.
 use Rattle.std.specs.Prelude.{◌≡◌, ℕ, Bool, true, false, Result, Ok}
-use Rattle.archive_shape_writing.specs.Progress.{Progress, Starts, Finishes}
-use Rattle.archive_shape_writing.specs.Progress.Progress.{unmet, begun, ended}
-use Rattle.archive_shape_writing.specs.declared.error.Error.{Error}
+use Rattle.archive_shape_layout.specs.Progress.{Progress, Starts, Finishes}
+use Rattle.archive_shape_layout.specs.Progress.Progress.{unmet, begun, ended}
+use Rattle.archive_shape_layout.specs.declared.error.Error.{Error}
 use Rattle.archive_shape.specs.declared.pooling.PoolingState.{PoolingState}
 use Rattle.archive_shape.specs.declared.pooling.PoolingState.TheVariants.{Started, Pending, Finished}
 

@@ -8,8 +8,8 @@ use Rattle.archive_shape_layout.specs.Shape.Pointee.{sized, slice, str}
 use Rattle.archive_shape_layout.specs.Content.{Names, Part, Span, Item, item, place, shape_tagged, is_scalar, begins_inline, text_length, pointee_length, item_size, node_size, node_span, words_of, links_offset, control_count, buckets_span}
 use Rattle.archive_shape_layout.specs.Content.Part.{at, behind, node, child, entry, buckets, place_at}
 use Rattle.archive_shape.specs.Range.{Range, InRange}
-use Rattle.archive_shape_writing.specs.declared.error.Error.{Error}
-use Rattle.archive_shape_writing.specs.declared.error.Error.TheVariants.{Unaligned, InvalidSubtreePointer, ExceededMaximumSubtreeDepth, InvalidTag, CheckStringRepr, TableLength, UnwrappedControlByte, WrongNumberOfElements, InvalidPlace, NodeLength, TooManyLevels}
+use Rattle.archive_shape_layout.specs.declared.error.Error.{Error}
+use Rattle.archive_shape_layout.specs.declared.error.Error.TheVariants.{Unaligned, InvalidSubtreePointer, ExceededMaximumSubtreeDepth, InvalidTag, CheckStringRepr, TableLength, UnwrappedControlByte, WrongNumberOfElements, InvalidPlace, NodeLength, TooManyLevels}
 
 -- a question: a test of bytes, with its error; whether n bytes at a position lie in the range; whether a position
 -- is aligned; whether one more region may nest

@@ -1,7 +1,7 @@
 -- The progress that the state of a shared value reports.
 use Rattle.std.specs.Prelude.{ℕ}
-use Rattle.archive_shape_writing.specs.Progress.{Progress}
-use Rattle.archive_shape_writing.specs.Progress.Progress.{unmet, begun, ended}
+use Rattle.archive_shape_layout.specs.Progress.{Progress}
+use Rattle.archive_shape_layout.specs.Progress.Progress.{unmet, begun, ended}
 use Rattle.archive_shape.specs.declared.sharing.SharingState.{SharingState}
 use Rattle.archive_shape.specs.declared.sharing.SharingState.TheVariants.{Started, Pending, Finished}
 

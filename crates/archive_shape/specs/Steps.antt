@@ -7,7 +7,7 @@ use Rattle.archive_shape_layout.specs.Content.{Names}
 use Rattle.archive_shape_layout.specs.Content.Part.{at}
 use Rattle.archive_shape.specs.Kept.{Kept, IsWithin}
 use Rattle.archive_shape.specs.Checks.{Checks, Moves}
-use Rattle.archive_shape_writing.specs.declared.error.Error.{Error}
+use Rattle.archive_shape_layout.specs.declared.error.Error.{Error}
 
 -- a range that an element is checked in, where the form claims at least `claimed` bytes
 pub record Narrower (outer inner : Kept) (claimed : ℕ) : Type 0 where

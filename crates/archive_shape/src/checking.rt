@@ -14,7 +14,7 @@ mod context;
 mod elements;
 mod laws;
 
-pub use archive_shape_writing::Error;
+pub use archive_shape_layout::Error;
 pub use array::check_array_each;
 pub use check::{CheckBytes, check_leaf};
 pub use context::{ArchiveContext, PushedRange, SharedContext, ValidationState};

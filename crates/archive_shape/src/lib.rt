@@ -39,9 +39,9 @@ mod pooling;
 mod sharing;
 mod steps;
 
-pub use archive_shape_layout::{Alignment, Pointee, Shape, Shapes, Width, same_shape};
-pub use archive_shape_writing::{
-    Error, Positional, Registry, Writer, write_all_pieces, write_three_pieces, write_two_pieces,
+pub use archive_shape_layout::{
+    Alignment, Error, Pointee, Positional, Registry, Shape, Shapes, Width, Writer, same_shape,
+    write_all_pieces, write_three_pieces, write_two_pieces,
 };
 pub use copy::CopyOptimization;
 pub use key::ArchivedKey;

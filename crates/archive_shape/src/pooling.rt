@@ -1,8 +1,8 @@
 //! The trait of registries that keep the shared values while an archive is read.
-ghost use Rattle.std.specs.Prelude.{◌≡◌, ℕ, Bool, MatchResult};
-ghost use Rattle.archive_shape.specs.Pooling.{StartsPooling, FinishesPooling};
-ghost use Rattle.archive_shape_writing.specs.Progress.{Progress, IsSame};
-ghost use Rattle.archive_shape_writing.specs.declared.error.Error.TheVariants.{OutOfMemory};
+ghost use Rattle.std.specs.Prelude.{ℕ, Bool};
+ghost use Rattle.archive_shape.specs.Pooling.{FinishesPooling};
+ghost use Rattle.archive_shape.specs.Calls.{StartsReading};
+ghost use Rattle.archive_shape_layout.specs.Progress.{Progress};
 
 use crate::Error;
 
@@ -29,8 +29,7 @@ pub trait Pooling<T> {
     /// Returns the progress of the value at a position, and begins a value that was not seen before. Where no progress
     /// is kept, the value is begun anew. Returns `OutOfMemory` when an allocation fails.
     fn start_pooling(&mut self, pos: usize) -> Result<PoolingState<T>, Error>
-        ensures { MatchResult result (StartsPooling (known self.old) (known self.new) pos KEEPS)
-            (λ e. (e ≡ OutOfMemory) × IsSame (known self.old) (known self.new)) };
+        ensures { StartsReading (known self.old) (known self.new) pos KEEPS result };
 
     /// Finishes a value that has begun, of which `value` was made. Allocates nothing: the entry was made at its start.
     /// Where progress is kept, returns `NotStarted` for a value that has not begun, and `AlreadyFinished` for one that

@@ -1,8 +1,6 @@
 //! The trait of registries that keep the shared values while an archive is written.
-ghost use Rattle.std.specs.Prelude.{◌≡◌, MatchResult};
-ghost use Rattle.archive_shape_writing.specs.Progress.{IsSame, Starts, Finishes};
-ghost use Rattle.archive_shape.specs.Sharing.{progress_of};
-ghost use Rattle.archive_shape_writing.specs.declared.error.Error.TheVariants.{OutOfMemory};
+ghost use Rattle.archive_shape_layout.specs.Progress.{Finishes};
+ghost use Rattle.archive_shape.specs.Calls.{StartsKey};
 
 use crate::{Error, Registry};
 
@@ -23,8 +21,7 @@ pub trait Sharing: Registry {
     /// Returns the progress of the value, and begins a value that was not seen before. Returns `OutOfMemory` when an
     /// allocation fails.
     fn start_sharing(&mut self, key: usize) -> Result<SharingState, Error>
-        ensures { MatchResult result (λ state. Starts (Self.known self.old) (Self.known self.new) key (progress_of state))
-            (λ e. (e ≡ OutOfMemory) × IsSame (Self.known self.old) (Self.known self.new)) };
+        ensures { StartsKey (Self.known self.old) (Self.known self.new) key result };
 
     /// Finishes a value that has begun, at the position `pos`. Allocates nothing: the entry was made at its start.
     /// Returns `NotStarted` for a value that has not begun, and `AlreadyFinished` for one that has finished.

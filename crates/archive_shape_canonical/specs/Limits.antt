@@ -5,8 +5,8 @@ use Rattle.archive_shape_layout.specs.Bytes.{align_up}
 use Rattle.archive_shape_layout.specs.Shape.{Shape, Pointee, align_of}
 use Rattle.archive_shape_layout.specs.Value.{Value}
 use Rattle.archive_shape_layout.specs.Content.{Names}
-use Rattle.archive_shape_writing.specs.declared.error.Error.{Error}
-use Rattle.archive_shape_writing.specs.declared.error.Error.TheVariants.{StringTooLong, LengthTooLarge, PositionTooLarge, IsizeOverflow}
+use Rattle.archive_shape_layout.specs.declared.error.Error.{Error}
+use Rattle.archive_shape_layout.specs.declared.error.Error.TheVariants.{StringTooLong, LengthTooLarge, PositionTooLarge, IsizeOverflow}
 use Rattle.archive_shape_canonical.specs.Settled.{Fit}
 use Rattle.archive_shape_canonical.specs.Sharing.{end_of_shared}
 use Rattle.archive_shape_canonical.specs.Plan.{Target, Plan, flat, parts, leads, leads_to_text, counts, Plans, no_plans, more_plans, HasPlan}

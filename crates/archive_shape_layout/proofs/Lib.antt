@@ -7,8 +7,9 @@ pub mod Finishes
 pub mod Found
 pub mod Framed
 pub mod HeldNumbers
-pub mod Least
+pub mod Joined
 pub mod LeafRegions
+pub mod Least
 pub mod Leaves
 pub mod Naming
 pub mod Nonzero
@@ -20,6 +21,7 @@ pub mod Places
 pub mod PointerSizes
 pub mod Readable
 pub mod Rooted
+pub mod SameBytes
 pub mod SameShape
 pub mod Sizes
 pub mod Stood
@@ -28,4 +30,3 @@ pub mod Unique
 pub mod Utf8
 pub mod Visited
 pub mod Windows
-pub mod SameBytes

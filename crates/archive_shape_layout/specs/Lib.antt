@@ -7,7 +7,9 @@ pub mod Laws
 pub mod Naming
 pub mod Numbers
 pub mod Path
+pub mod Progress
 pub mod RuntimeShape
 pub mod Shape
 pub mod Value
 pub mod Visited
+pub mod Writing

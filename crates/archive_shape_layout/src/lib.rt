@@ -18,3 +18,11 @@ pub use laws::{
     value_at_path, visits_stand,
 };
 pub use shape::{Alignment, Pointee, Shape, Shapes, Width, same_shape};
+
+mod error;
+mod pieces;
+mod writer;
+
+pub use error::Error;
+pub use pieces::{write_all_pieces, write_three_pieces, write_two_pieces};
+pub use writer::{Positional, Registry, Writer};

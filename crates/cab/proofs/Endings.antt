@@ -4,13 +4,13 @@ use Rattle.std.specs.Prelude.{String, Result, MatchResult}
 use Rattle.std.specs.declared.alloc.Global.{Global}
 use Rattle.std.specs.Coded.{Coded-set, coded_list, coded_ℕ}
 use Rattle.std.proofs.Math.Logic.{∥∥₁_elim}
-use Rattle.cab_files.specs.Cabinet.TextGrammar.Tree.{Tree}
-use Rattle.cab_files.specs.Cabinet.Documents.Accepted.{Accepted}
-use Rattle.cab_files.specs.Cabinet.Editing.{EditedByLines}
-use Rattle.cab_files.proofs.Cabinet.SessionLaws.{unedited_bytes_stay}
-use Rattle.cab_files.specs.Cabinet.declared.fault.Fault.{Fault}
-use Rattle.cab_files.specs.Cabinet.declared.session.Count.{Count}
-use Rattle.cab_files.specs.Cabinet.declared.session.RunFault.{RunFault}
+use Rattle.cabinet_text_grammar.specs.Tree.{Tree}
+use Rattle.cabinet_documents.specs.Accepted.{Accepted}
+use Rattle.cabinet.specs.Editing.{EditedByLines}
+use Rattle.cabinet.proofs.SessionLaws.{unedited_bytes_stay}
+use Rattle.cabinet.specs.declared.fault.Fault.{Fault}
+use Rattle.cabinet.specs.declared.session.Count.{Count}
+use Rattle.cabinet.specs.declared.session.RunFault.{RunFault}
 use Rattle.cab.specs.Ending.{IsFlushed, IsFirstFault, IsArchive, EditsArchive}
 
 -- the counts of a run are those of its lines

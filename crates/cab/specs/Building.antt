@@ -1,13 +1,13 @@
 -- The results of building an archive.
 use Rattle.std.specs.Prelude.{◌≡◌, ℕ, ◌<◌, ◌⊎◌, List, String, string_bytes, string_len, codes}
 use Rattle.std.specs.declared.alloc.Global.{Global}
-use Rattle.cab_files.specs.Cabinet.TextGrammar.Tree.{Tree}
-use Rattle.cab_files.specs.Cabinet.TextGrammar.Spelling.{text_of}
-use Rattle.cab_files.specs.Cabinet.TextGrammar.Fault.{FirstFault}
-use Rattle.cab_files.specs.Cabinet.Documents.Image.{Image}
-use Rattle.cab_files.specs.Cabinet.Archives.Saving.{HasNoImageFor}
-use Rattle.cab_files.specs.Cabinet.declared.fault.Fault.{Fault}
-use Rattle.cab_files.specs.Cabinet.declared.fault.Fault.TheVariants.{Usage, CannotRead, CannotWrite, Text, Save, Open, Run}
+use Rattle.cabinet_text_grammar.specs.Tree.{Tree}
+use Rattle.cabinet_text_grammar.specs.Spelling.{text_of}
+use Rattle.cabinet_text_grammar.specs.Fault.{FirstFault}
+use Rattle.cabinet_documents.specs.Image.{Image}
+use Rattle.cabinet_archives.specs.Saving.{HasNoImageFor}
+use Rattle.cabinet.specs.declared.fault.Fault.{Fault}
+use Rattle.cabinet.specs.declared.fault.Fault.TheVariants.{Usage, CannotRead, CannotWrite, Text, Save, Open, Run}
 
 -- the bytes are an image of the document that has the text
 pub record Builds (text archive : List ℕ) : Type 0 where

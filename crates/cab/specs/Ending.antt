@@ -1,16 +1,16 @@
 -- The fault that is reported of a run in which more than one operation may fail.
 use Rattle.std.specs.Prelude.{◌≡◌, ℕ, ◌<◌, Bool, true, false, List, String, Result, Ok, Err, IsOk}
 use Rattle.std.specs.declared.alloc.Global.{Global}
-use Rattle.cab_files.specs.Cabinet.TextGrammar.Tree.{Tree}
-use Rattle.cab_files.specs.Cabinet.Documents.Accepted.{Accepted}
-use Rattle.cab_files.specs.Cabinet.Documents.Audit.{IsRefusedFor}
-use Rattle.cab_files.specs.Cabinet.Archives.Refused.{refusal_of}
-use Rattle.cab_files.specs.Cabinet.Editing.{EditedByLines}
-use Rattle.cab_files.specs.Cabinet.declared.fault.Fault.{Fault}
-use Rattle.cab_files.specs.Cabinet.declared.fault.Fault.TheVariants.{Usage, CannotRead, CannotWrite, Text, Save, Open, Run}
-use Rattle.cab_files.specs.Cabinet.declared.session.Count.{Count}
-use Rattle.cab_files.specs.Cabinet.declared.session.RunFault.{RunFault}
-use Rattle.cab_files.specs.Cabinet.declared.session.RunCause.TheVariants.{Write}
+use Rattle.cabinet_text_grammar.specs.Tree.{Tree}
+use Rattle.cabinet_documents.specs.Accepted.{Accepted}
+use Rattle.cabinet_documents.specs.Audit.{IsRefusedFor}
+use Rattle.cabinet_archives.specs.Refused.{refusal_of}
+use Rattle.cabinet.specs.Editing.{EditedByLines}
+use Rattle.cabinet.specs.declared.fault.Fault.{Fault}
+use Rattle.cabinet.specs.declared.fault.Fault.TheVariants.{Usage, CannotRead, CannotWrite, Text, Save, Open, Run}
+use Rattle.cabinet.specs.declared.session.Count.{Count}
+use Rattle.cabinet.specs.declared.session.RunFault.{RunFault}
+use Rattle.cabinet.specs.declared.session.RunCause.TheVariants.{Write}
 
 -- A completed run fails if its last answers were not written. Of two faults the first is kept.
 abbrev pub IsFlushed : Result Count RunFault → (written : Bool) → Result Count RunFault → Type 0

@@ -2,8 +2,8 @@
 ghost use Rattle.std.specs.Prelude.{◌≡◌, ◌↔◌, IsTrue};
 ghost use Rattle.std.specs.Fs.{metadata_len};
 ghost use Rattle.std.specs.IoError.{error_kind};
-ghost use Rattle.cab_files.specs.Cabinet.TextGrammar.Tree.{Tree};
-ghost use Rattle.cab_files.specs.Cabinet.Documents.Accepted.{Accepted};
+ghost use Rattle.cabinet_text_grammar.specs.Tree.{Tree};
+ghost use Rattle.cabinet_documents.specs.Accepted.{Accepted};
 ghost use Rattle.cab.specs.Beside.{folder_of, IsIrreplaceable};
 
 use crate::beside::Beside;

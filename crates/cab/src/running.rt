@@ -1,8 +1,8 @@
 //! `cab run`, which carries out the lines of the standard input in an archive file.
 ghost use Rattle.std.specs.Prelude.{◌≡◌, ◌-◌, ◌^◌, ◌<◌, true, IfErr, MatchResult};
-ghost use Rattle.cab_files.specs.Cabinet.TextGrammar.Tree.{Tree};
-ghost use Rattle.cab_files.specs.Cabinet.Documents.Accepted.{Accepted};
-ghost use Rattle.cab_files.specs.Cabinet.Editing.{EditedByLines};
+ghost use Rattle.cabinet_text_grammar.specs.Tree.{Tree};
+ghost use Rattle.cabinet_documents.specs.Accepted.{Accepted};
+ghost use Rattle.cabinet.specs.Editing.{EditedByLines};
 ghost use Rattle.cab.specs.Ending.{IsFlushed, IsFirstFault, EditsArchive, EndsRunBy};
 
 use crate::input::InputStream;

@@ -1,8 +1,8 @@
 //! The standard output and error as writers of lines, whose bytes are not known, so that contracts cannot name them.
 ghost use Rattle.std.specs.Prelude.{◌≡◌, ◌+◌, ◌-◌, ◌^◌, ◌<◌, false, true, []};
-ghost use Rattle.archive_shape_writing.specs.Progress.Progress.{unmet};
+ghost use Rattle.archive_shape_layout.specs.Progress.Progress.{unmet};
 
-use archive_shape_writing::{Error, Positional, Registry, Writer};
+use archive_shape_layout::{Error, Positional, Registry, Writer};
 use std::io;
 use std::io::Write;
 

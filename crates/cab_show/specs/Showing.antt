@@ -1,11 +1,11 @@
 -- How showing an archive ends, and the lines that report why.
 use Rattle.std.specs.Prelude.{◌≡◌, ℕ, ◌<◌, List, String, string_bytes, string_len, codes}
 use Rattle.std.specs.declared.alloc.Global.{Global}
-use Rattle.cab_files.specs.Cabinet.Archives.Refused.{refusal_of}
-use Rattle.cab_files.specs.Cabinet.Documents.Audit.{IsRefusedFor}
-use Rattle.cab_files.specs.Cabinet.Reporting.{spelled_fault}
-use Rattle.cab_files.specs.Cabinet.declared.fault.Fault.{Fault}
-use Rattle.cab_files.specs.Cabinet.declared.fault.Fault.TheVariants.{Usage, CannotRead, CannotWrite, Open}
+use Rattle.cabinet_archives.specs.Refused.{refusal_of}
+use Rattle.cabinet_documents.specs.Audit.{IsRefusedFor}
+use Rattle.cabinet.specs.Reporting.{spelled_fault}
+use Rattle.cabinet.specs.declared.fault.Fault.{Fault}
+use Rattle.cabinet.specs.declared.fault.Fault.TheVariants.{Usage, CannotRead, CannotWrite, Open}
 
 -- the faults with which showing an archive file ends; the text goes to no file with a name
 abbrev pub EndsShowBy : String Global → Fault → Type 0

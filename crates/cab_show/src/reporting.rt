@@ -1,9 +1,9 @@
 //! The line that reports a fault.
 ghost use Rattle.std.specs.Prelude.{◌-◌, ◌^◌, ◌<◌};
-ghost use Rattle.archive_shape_writing.specs.Writing.{Writes};
+ghost use Rattle.archive_shape_layout.specs.Writing.{Writes};
 ghost use Rattle.cab_show.specs.Showing.{spelled_report};
 
-use archive_shape_writing::{Error, Writer};
+use archive_shape_layout::{Error, Writer};
 use cab_files::{Fault, fault_line};
 
 /// Writes the line that reports a fault: that of `cab`, except for the usage.

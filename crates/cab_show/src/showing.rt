@@ -1,11 +1,11 @@
 //! Printing the text of an archive's document, or a map of the archive.
 ghost use Rattle.std.specs.Prelude.{◌-◌, ◌^◌, ◌<◌, IfErr};
-ghost use Rattle.cab_files.specs.Cabinet.Archives.Refused.{refusal_of};
-ghost use Rattle.cab_files.specs.Cabinet.Documents.Audit.{IsRefusedFor};
+ghost use Rattle.cabinet_archives.specs.Refused.{refusal_of};
+ghost use Rattle.cabinet_documents.specs.Audit.{IsRefusedFor};
 ghost use Rattle.cab_show.specs.Showing.{EndsShowBy};
 
 use crate::mapping::write_map;
-use archive_shape_writing::{Error, Writer};
+use archive_shape_layout::{Error, Writer};
 use cab_files::{Fault, OpenRefusal, OutputStream, read, standard_output, write_document};
 use std::alloc::Global;
 use std::fs::File;

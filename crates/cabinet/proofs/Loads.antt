@@ -1,8 +1,8 @@
 -- What is saved of a loaded document.
 use Rattle.std.proofs.Common.{subst}
-use Rattle.cabinet_archives.specs.Documents.Accepted.{Accepted}
-use Rattle.cabinet_archives.specs.Documents.Image.{Image}
-use Rattle.cabinet_archives.proofs.Documents.Imaged.{one_image_law}
+use Rattle.cabinet_documents.specs.Accepted.{Accepted}
+use Rattle.cabinet_documents.specs.Image.{Image}
+use Rattle.cabinet_documents.proofs.Imaged.{one_image_law}
 use Rattle.cabinet.specs.Laws.{LoadedIsSaved, SavedAgainIsSame}
 
 pub loaded_is_saved_law : LoadedIsSaved

@@ -3,23 +3,23 @@
 use Rattle.std.proofs.Common.{◌≡◌, ℕ, zero, suc, ◌+◌, ◌-◌, ◌*◌, ◌<◌, ◌≤◌, nat_lt, Bool, true, false, cond, List, [], ◌∷◌, ◌++◌, refl, sym, ap, ap₂, subst, ◌∙◌, arith}
 use Rattle.std.specs.Prelude.{⊤}
 use Rattle.std.specs.List.{Contains}
-use Rattle.archive_shape.specs.ShapeLayout.Shape.{Pointee}
-use Rattle.archive_shape.specs.ShapeLayout.Value.{Value, Values}
-use Rattle.archive_shape.specs.ShapeLayout.Content.{Part, Span, Label, Content, content_of}
-use Rattle.archive_shape.specs.ShapeLayout.Content.Part.{behind}
-use Rattle.archive_shape.specs.ShapeLayout.Content.Content.{plain, claimed}
-use Rattle.archive_shape.specs.ShapeLayout.Holds.{Region, region_of, Visit, OpenShared, Holds, HoldAll}
-use Rattle.archive_shape.specs.ShapeLayout.Holds.Holds.{holds_plain, holds_claimed, holds_first, holds_later, holds_back}
-use Rattle.archive_shape.specs.ShapeLayout.Holds.HoldAll.{holds_none, holds_more}
+use Rattle.archive_shape_layout.specs.Shape.{Pointee}
+use Rattle.archive_shape_layout.specs.Value.{Value, Values}
+use Rattle.archive_shape_layout.specs.Content.{Part, Span, Label, Content, content_of}
+use Rattle.archive_shape_layout.specs.Content.Part.{behind}
+use Rattle.archive_shape_layout.specs.Content.Content.{plain, claimed}
+use Rattle.archive_shape_layout.specs.Holds.{Region, region_of, Visit, OpenShared, Holds, HoldAll}
+use Rattle.archive_shape_layout.specs.Holds.Holds.{holds_plain, holds_claimed, holds_first, holds_later, holds_back}
+use Rattle.archive_shape_layout.specs.Holds.HoldAll.{holds_none, holds_more}
 use Rattle.archive_shape.specs.Accepts.{NestsBelow}
 use Rattle.archive_shape.proofs.Ranges.{NestsBelow-append}
-use Rattle.cabinet_archives.specs.Documents.Node.{node_names}
-use Rattle.cabinet_archives.specs.Documents.Walk.{Stop, Walks, WalkAll, is_container, depth_in, parts_of, joined}
-use Rattle.cabinet_archives.specs.Documents.Walk.Walks.{walks}
-use Rattle.cabinet_archives.specs.Documents.Walk.WalkAll.{walk_more}
-use Rattle.cabinet_archives.proofs.Documents.Places.{Place, shared_here, whole_here, box_here, pair_here, tree_node, tree_child, buckets_here, numbers_here, node_here, entry_number, node_behind, nodes_behind, pairs_behind, text_behind, Spot, part_of, parts_at, each_from, entries_from, children_from, tagged_from, is_behind, Passes, node_passes, box_passes, behind_passes, list_passes, text_passes, child_passes, table_passes, Pays, pays_truth, pays_number, pays_text, pays_shared, pays_option, pays_list, pays_ordered, pays_hashed, pays_kept, pays_whole, Follows, passes, pays, truth_is, number_is, text_is, behind_is, none_is, some_is, nodes_follow, empty_is, total_is, leaf_follows, inner_follows, no_child_is, entry_follows, no_items_is, items_follow, no_entries_is, entries_second, numbers_follow, entry_number_is, pairs_follow, pair_follows, Leads, leads_nowhere, leads_plain, leads_claimed, leads_counted, leads_whole, led}
-use Rattle.cabinet_archives.proofs.Documents.HeldNodes.{Counts, counts_text, counts_node, counts}
-use Rattle.cabinet_archives.proofs.Documents.Stops.{Each, each_front, each_flat, flat}
+use Rattle.cabinet_documents.specs.Node.{node_names}
+use Rattle.cabinet_documents.specs.Walk.{Stop, Walks, WalkAll, is_container, depth_in, parts_of, joined}
+use Rattle.cabinet_documents.specs.Walk.Walks.{walks}
+use Rattle.cabinet_documents.specs.Walk.WalkAll.{walk_more}
+use Rattle.cabinet_documents.proofs.Places.{Place, shared_here, whole_here, box_here, pair_here, tree_node, tree_child, buckets_here, numbers_here, node_here, entry_number, node_behind, nodes_behind, pairs_behind, text_behind, Spot, part_of, parts_at, each_from, entries_from, children_from, tagged_from, is_behind, Passes, node_passes, box_passes, behind_passes, list_passes, text_passes, child_passes, table_passes, Pays, pays_truth, pays_number, pays_text, pays_shared, pays_option, pays_list, pays_ordered, pays_hashed, pays_kept, pays_whole, Follows, passes, pays, truth_is, number_is, text_is, behind_is, none_is, some_is, nodes_follow, empty_is, total_is, leaf_follows, inner_follows, no_child_is, entry_follows, no_items_is, items_follow, no_entries_is, entries_second, numbers_follow, entry_number_is, pairs_follow, pair_follows, Leads, leads_nowhere, leads_plain, leads_claimed, leads_counted, leads_whole, led}
+use Rattle.cabinet_documents.proofs.HeldNodes.{Counts, counts_text, counts_node, counts}
+use Rattle.cabinet_documents.proofs.Stops.{Each, each_front, each_flat, flat}
 
 -- ---- how many regions may lie around a place
 

@@ -1,15 +1,15 @@
 -- What is accepted passes the check, so it has no fault.
 use Rattle.std.proofs.Common.{List, [], ℕ, length, refl, arith}
-use Rattle.archive_shape.specs.ShapeLayout.Holds.{root_position}
+use Rattle.archive_shape_layout.specs.Holds.{root_position}
 use Rattle.archive_shape.specs.Accepts.{Passes}
 use Rattle.archive_shape.proofs.Refused.{refused_law}
 use Rattle.archive_core_validation.proofs.Bounded.{nests_below_more}
 use Rattle.cabinet_text_grammar.specs.Tree.{Tree}
-use Rattle.cabinet_archives.specs.Documents.Node.{node_shape, node_names}
-use Rattle.cabinet_archives.specs.Documents.Audit.{access, unsound, out_of_memory, root_part, whole_range}
-use Rattle.cabinet_archives.specs.Documents.Accepted.{Accepted}
-use Rattle.cabinet_archives.proofs.Documents.Places.{node_behind}
-use Rattle.cabinet_archives.proofs.Documents.Sound.{refused_law as refused_is_not_accepted}
+use Rattle.cabinet_documents.specs.Node.{node_shape, node_names}
+use Rattle.cabinet_documents.specs.Audit.{access, unsound, out_of_memory, root_part, whole_range}
+use Rattle.cabinet_documents.specs.Accepted.{Accepted}
+use Rattle.cabinet_documents.proofs.Places.{node_behind}
+use Rattle.cabinet_documents.proofs.Sound.{refused_law as refused_is_not_accepted}
 use Rattle.cabinet.specs.RefusalsLaws.{AcceptedIsNotRefused}
 use Rattle.cabinet.proofs.Nested.{IsLow, each_of, nests}
 

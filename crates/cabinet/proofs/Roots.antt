@@ -2,11 +2,11 @@
 use Rattle.std.proofs.Common.{◌≡◌, ℕ, List, Ok, Err, subst, sym}
 use Rattle.std.specs.Prelude.{Result, IfOk}
 use Rattle.archive_shape.specs.Key.{HeldAt}
-use Rattle.archive_shape.specs.ShapeLayout.Content.Part.{at}
-use Rattle.archive_core_validation.specs.FormsValues.Parts.{HasValue}
+use Rattle.archive_shape_layout.specs.Content.Part.{at}
+use Rattle.archive_forms_values.specs.Parts.{HasValue}
 use Rattle.cabinet_text_grammar.specs.Tree.{Tree}
-use Rattle.cabinet_archives.specs.Documents.Node.{node_shape, KnowsNode}
-use Rattle.cabinet_archives.specs.Documents.Accepted.{Accepted}
+use Rattle.cabinet_documents.specs.Node.{node_shape, KnowsNode}
+use Rattle.cabinet_documents.specs.Accepted.{Accepted}
 use Rattle.cabinet_archives.specs.Found.{OfDocument}
 use Rattle.cabinet_archives.specs.Sound.{IsSoundPart}
 use Rattle.cabinet_archives.proofs.Reached.{root_of as place, root_there as root_held, root_has_value, root_is_sound}

@@ -1,12 +1,12 @@
 -- The laws of sessions.
 use Rattle.std.proofs.Common.{◌≡◌, ℕ, ◌+◌, suc, zero, List, [], ◌∷◌, take, refl, sym, ap, subst, ◌∙◌, arith, Option, Some, None}
-use Rattle.archive_shape.specs.ShapeLayout.Value.{Value}
+use Rattle.archive_shape_layout.specs.Value.{Value}
 use Rattle.cabinet_text_grammar.specs.Tree.{Tree, Leaf}
 use Rattle.cabinet_text_grammar.specs.Path.{Step}
 use Rattle.cabinet_text_grammar.specs.Line.{Line, get, keys, range, set, Says}
 use Rattle.cabinet_text_grammar.specs.Answering.{Answer, head, keys_are, wrong, missing, done, refused, bad, answer, reply}
-use Rattle.cabinet_archives.specs.Documents.Accepted.{Accepted}
-use Rattle.cabinet_archives.specs.Documents.Image.{Image}
+use Rattle.cabinet_documents.specs.Accepted.{Accepted}
+use Rattle.cabinet_documents.specs.Image.{Image}
 use Rattle.cabinet_archives.specs.Setting.{EditLeaves}
 use Rattle.cabinet_archives.proofs.Kept.{set_keeps_accepted, set_keeps_image}
 use Rattle.cabinet.specs.Session.{AllSay, next, after_all, edits, one_if_done}

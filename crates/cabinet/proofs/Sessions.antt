@@ -1,14 +1,14 @@
 -- Lines carried out, one after another.
 use Rattle.std.proofs.Common.{◌≡◌, ℕ, ◌+◌, ◌<◌, ◌≤◌, Bool, false, suc, zero, List, [], ◌∷◌, ◌++◌, length, take, drop, refl, sym, ap, subst, ◌∙◌, append_assoc, append-nil, length-append, arith, Option, Some, None, add-one}
 use Rattle.std.proofs.lemmas.List.Elements.{All-push, All-same}
-use Rattle.archive_shape_writing.specs.Writing.{Cut}
+use Rattle.archive_shape_layout.specs.Writing.{Cut}
 use Rattle.cabinet_text_grammar.specs.Tree.{Tree, Leaf}
 use Rattle.cabinet_text_grammar.specs.Path.{Step}
 use Rattle.cabinet_text_grammar.specs.Line.{Line, get, keys, range, set, Says}
 use Rattle.cabinet_text_grammar.specs.Answering.{Answer, answer, reply, change, spelled_answer}
 use Rattle.cabinet_text_nodes.specs.Lines.{IsQuestion}
-use Rattle.cabinet_archives.specs.Documents.Accepted.{Accepted}
-use Rattle.cabinet_archives.specs.Documents.Image.{Image}
+use Rattle.cabinet_documents.specs.Accepted.{Accepted}
+use Rattle.cabinet_documents.specs.Image.{Image}
 use Rattle.cabinet_archives.specs.Setting.{EditLeaves}
 use Rattle.cabinet.specs.Session.{lines_of, AllSay, answer_to, next, answers, after_all, edits, one_if_done}
 use Rattle.cabinet.specs.Editing.{LinesLeave, no_line, more_lines, Edited, EditedByLines}

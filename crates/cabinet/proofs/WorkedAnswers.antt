@@ -3,8 +3,8 @@ use Rattle.std.proofs.Common.{◌≡◌, ◌≤◌, ◌++◌, ℕ, List, length,
 use Rattle.std.specs.Prelude.{Bool, Result, IfOk, IfErr}
 use Rattle.std.proofs.lemmas.List.{take_all, drop_all}
 use Rattle.cabinet_text_grammar.specs.Tree.{Tree}
-use Rattle.cabinet_archives.specs.Documents.Accepted.{Accepted}
-use Rattle.cabinet_archives.specs.Documents.Image.{Image}
+use Rattle.cabinet_documents.specs.Accepted.{Accepted}
+use Rattle.cabinet_documents.specs.Image.{Image}
 use Rattle.cabinet.specs.Steps.{Carried, CarriedCut, Completed, Faulted, read_failed, write_failed, memory_refused, line_too_long, input_too_long}
 use Rattle.cabinet.specs.Headline.{AnswersAsDocument, AnswersCut, AnswersUpTo, IsMet, WorksInPlace}
 use Rattle.cabinet.specs.declared.session.Count.{Count}

@@ -1,11 +1,11 @@
 -- The bytes that edits leave.
 use Rattle.std.specs.Prelude.{◌≡◌, ℕ, List, [], ◌∷◌, length, Option, Some, None}
-use Rattle.archive_shape.specs.ShapeLayout.Value.{Value}
+use Rattle.archive_shape_layout.specs.Value.{Value}
 use Rattle.cabinet_text_grammar.specs.Tree.{Tree}
 use Rattle.cabinet_text_grammar.specs.Line.{Line, get, keys, range, set}
 use Rattle.cabinet_text_grammar.specs.Answering.{reply}
-use Rattle.cabinet_archives.specs.Documents.Accepted.{Accepted}
-use Rattle.cabinet_archives.specs.Documents.Image.{Image}
+use Rattle.cabinet_documents.specs.Accepted.{Accepted}
+use Rattle.cabinet_documents.specs.Image.{Image}
 use Rattle.cabinet_archives.specs.Setting.{EditLeaves}
 use Rattle.cabinet.specs.Session.{AllSay, next, after_all, edits}
 

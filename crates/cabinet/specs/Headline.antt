@@ -1,10 +1,10 @@
 -- Working in the bytes of a saved document, compared with working on the document.
 use Rattle.std.specs.Prelude.{◌≡◌, ℕ, ◌+◌, ◌<◌, Bool, false, List, [], ◌∷◌, ◌++◌, length, take, Option, Result, Ok, Err, ⊤}
-use Rattle.archive_shape_writing.specs.Writing.{Cut}
+use Rattle.archive_shape_layout.specs.Writing.{Cut}
 use Rattle.cabinet_text_grammar.specs.Tree.{Tree}
 use Rattle.cabinet_text_grammar.specs.Line.{Line}
 use Rattle.cabinet.specs.Session.{lines_of, AllSay, answer_to, answers, after_all, edits}
-use Rattle.cabinet_archives.specs.Documents.Image.{Image}
+use Rattle.cabinet_documents.specs.Image.{Image}
 use Rattle.cabinet.specs.Steps.{IsMemoryRefused, IsReadFault, IsLineTooLong, IsInputTooLong}
 use Rattle.cabinet.specs.declared.session.Count.{Count}
 use Rattle.cabinet.specs.declared.session.RunFault.{RunFault}

@@ -2,8 +2,8 @@
 use Rattle.std.specs.Prelude.{◌≡◌, ℕ, List, take, drop, Option}
 use Rattle.cabinet_text_grammar.specs.Tree.{Tree}
 use Rattle.cabinet_text_grammar.specs.Line.{Line}
-use Rattle.cabinet_archives.specs.Documents.Accepted.{Accepted}
-use Rattle.cabinet_archives.specs.Documents.Image.{Image}
+use Rattle.cabinet_documents.specs.Accepted.{Accepted}
+use Rattle.cabinet_documents.specs.Image.{Image}
 use Rattle.cabinet.specs.Session.{AllSay, after_all}
 use Rattle.cabinet.specs.Editing.{LinesLeave, EditedByLines}
 

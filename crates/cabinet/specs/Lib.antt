@@ -1,5 +1,4 @@
-pub mod Archives
-pub mod Documents
+pub mod Calls
 pub mod Editing
 pub mod Failures
 pub mod Headline
@@ -9,4 +8,3 @@ pub mod RefusalsLaws
 pub mod Reporting
 pub mod Session
 pub mod Steps
-pub mod TextGrammar

@@ -1,8 +1,8 @@
 -- Laws of refusals, as statements.
 use Rattle.std.specs.Prelude.{◌≡◌, ℕ, List}
 use Rattle.cabinet_text_grammar.specs.Tree.{Tree}
-use Rattle.cabinet_archives.specs.Documents.Accepted.{Accepted}
-use Rattle.cabinet_archives.specs.Documents.Audit.{Refusal, out_of_memory, IsRefusedFor}
+use Rattle.cabinet_documents.specs.Accepted.{Accepted}
+use Rattle.cabinet_documents.specs.Audit.{Refusal, out_of_memory, IsRefusedFor}
 
 -- accepted bytes are refused only with `out_of_memory`
 abbrev pub AcceptedIsNotRefused : Type 0

@@ -1,10 +1,10 @@
 -- What the lines of a session do to the bytes that they work in, and to what is written.
 use Rattle.std.specs.Prelude.{◌≡◌, ℕ, ◌+◌, ◌<◌, ◌≤◌, ◌==◌, if◌then◌else◌, Bool, false, List, [], ◌∷◌, ◌++◌, length, take, count_by, Option, All}
-use Rattle.archive_shape_writing.specs.Writing.{Cut}
+use Rattle.archive_shape_layout.specs.Writing.{Cut}
 use Rattle.cabinet_text_grammar.specs.Tree.{Tree}
 use Rattle.cabinet_text_grammar.specs.Line.{Line}
 use Rattle.cabinet.specs.Session.{lines_of, AllSay, answer_to, answers, after_all, edits}
-use Rattle.cabinet_archives.specs.Documents.Accepted.{Accepted}
+use Rattle.cabinet_documents.specs.Accepted.{Accepted}
 use Rattle.cabinet.specs.Editing.{Edited}
 use Rattle.cabinet.specs.declared.session.RunCause.{RunCause}
 use Rattle.cabinet.specs.declared.session.RunCause.TheVariants.{Read, Write, OutOfMemory, LineTooLong, InputTooLong}

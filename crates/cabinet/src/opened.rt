@@ -1,33 +1,25 @@
 //! Bytes that are opened as the archive of a document, for questions and edits.
 ghost use Rattle.std.specs.Prelude.{◌≡◌, ◌-◌, ◌^◌, ◌<◌, length, IfOk, IfErr, OnOk};
-ghost use Rattle.std.specs.Option.{option_map};
-ghost use Rattle.archive_shape.specs.ShapeLayout.Holds.{root_position as position_of_root};
-ghost use Rattle.archive_shape.specs.ShapeLayout.Content.Part.{at};
-ghost use Rattle.archive_shape_writing.specs.Writing.{Writes};
-ghost use Rattle.archive_core_validation.specs.FormsValues.Parts.{HasValue};
+ghost use Rattle.archive_shape_layout.specs.Holds.{root_position as position_of_root};
+ghost use Rattle.archive_shape_layout.specs.Content.Part.{at};
+ghost use Rattle.archive_forms_values.specs.Parts.{HasValue};
 ghost use Rattle.cabinet_text_grammar.specs.Tree.{Tree};
 ghost use Rattle.cabinet_text_grammar.specs.Line as line;
-ghost use Rattle.cabinet_text_grammar.specs.Answering.{answer, change, spelled_answer};
-ghost use Rattle.cabinet_text_grammar.specs.Path.{node_at};
-ghost use Rattle.cabinet_archives.specs.Documents.Node.{node_shape, KnowsNode};
-ghost use Rattle.cabinet_archives.specs.Documents.Accepted.{Accepted};
-ghost use Rattle.cabinet_archives.specs.Documents.Audit.{IsRefusedFor};
-ghost use Rattle.cabinet_archives.specs.Documents.Image.{Image};
-ghost use Rattle.cabinet_text_nodes.specs.Answers.{Tells};
-ghost use Rattle.cabinet_text_nodes.specs.Kinds.{kind_of};
+ghost use Rattle.cabinet_documents.specs.Node.{node_shape, KnowsNode};
+ghost use Rattle.cabinet_documents.specs.Accepted.{Accepted};
+ghost use Rattle.cabinet_documents.specs.Audit.{IsRefusedFor};
 ghost use Rattle.cabinet_text_nodes.specs.Lines.{IsQuestion};
-ghost use Rattle.cabinet_text_nodes.specs.Outcomes.{outcome_of};
-ghost use Rattle.cabinet_text_nodes.specs.View.{leaf_of, line_of, path_of};
-ghost use Rattle.cabinet_archives.specs.Cost.{PathTakes};
+ghost use Rattle.cabinet_text_nodes.specs.View.{line_of};
 ghost use Rattle.cabinet_archives.specs.Refused.{refusal_of};
 ghost use Rattle.cabinet_archives.specs.Failing.{FailsByWriter};
-ghost use Rattle.cabinet_archives.specs.Setting.{EditLeaves};
 ghost use Rattle.cabinet_archives.specs.Sound.{IsSoundPart};
+ghost use Rattle.cabinet.specs.Laws.{IsLoaded};
+ghost use Rattle.cabinet.specs.Calls.{WritesAnswer, TellsAnswer, FindsKind, CountsSteps, AnswersEdit, WritesEdit, ChangesArchive, ChangesImage};
 
 use archive_core_validation::root_position;
 use archive_hash_probing::{Group, Scan};
 use archive_shape::{Ref, Steps};
-use archive_shape_writing::{Error, Writer};
+use archive_shape_layout::{Error, Writer};
 use cabinet_archives::{ArchivedNode, OpenRefusal, check_scanned};
 use cabinet_text_nodes::{Asked, Document, Kind, Leaf, Line, SetAnswer, Step};
 use std::alloc::{AllocError, Global};
@@ -101,11 +93,8 @@ impl<'a, G: Scan> Opened<'a, G> {
     pub fn ask<W: Writer>(&self, line: &Line, writer: &mut W) -> Result<Asked, Error>
         requires question { IsQuestion (line_of line.now) }
         requires room { W.failures writer.old < 2 ^ 64 - 1 }
-        ensures written { (t : Tree) → Accepted self.now.bytes.now t
-            → Writes W.Writer writer.old writer.new
-            (spelled_answer (answer t (line_of line.now))) result }
-        ensures asked { IfOk result (λ asked. (t : Tree) → Accepted self.now.bytes.now t
-            → Tells asked (answer t (line_of line.now))) }
+        ensures written { WritesAnswer W.Writer self.now.bytes.now line.now writer.old writer.new result }
+        ensures asked { IfOk result (TellsAnswer self.now.bytes.now line.now) }
         ensures counted { FailsByWriter W.Writer writer.old writer.new result }
     {
         cabinet_archives::ask::<G, W>(self.root(), line, writer)
@@ -116,17 +105,15 @@ impl<'a, G: Scan> Opened<'a, G> {
     /// searched in hashed and kept maps, at most one for sixteen places in each. All scans take the same. Reads only the
     /// nodes on the path, and does not allocate.
     pub fn locate(&self, path: &[Step]) -> (Option<Kind>, Steps)
-        ensures kind { (t : Tree) → Accepted self.now.bytes.now t
-            → result.0 ≡ option_map kind_of (node_at t (path_of path.now)) }
-        ensures takes { PathTakes self.now.bytes.now (position_of_root (length self.now.bytes.now) node_shape)
-            (path_of path.now) result.1.comparisons result.1.strides }
+        ensures kind { FindsKind self.now.bytes.now path.now result.0 }
+        ensures takes { CountsSteps self.now.bytes.now path.now result.1 }
     {
         cabinet_archives::locate::<G>(self.bytes, path)
     }
 
     /// Returns the document of the archive, in memory of its own. An `Err` says that an allocation failed.
     pub fn load(&self, alloc: Global) -> Result<Document, AllocError>
-        ensures { IfOk result (λ document. (t : Tree) → Accepted self.now.bytes.now t → document ≡ t) }
+        ensures { IfOk result (IsLoaded self.now.bytes.now) }
     {
         cabinet_archives::load(alloc, self.bytes)
     }
@@ -135,16 +122,11 @@ impl<'a, G: Scan> Opened<'a, G> {
     /// lies in a whole stays, since it may have other places too. Reads only the nodes on the path, and does not allocate.
     pub fn set(&mut self, path: &[Step], leaf: &Leaf) -> SetAnswer
         ensures same { self.new.bytes.ghost_name ≡ self.old.bytes.ghost_name }
-        ensures answer { (t : Tree) → Accepted self.old.bytes.now t
-            → outcome_of result ≡ answer t (line.set (path_of path.now) (leaf_of leaf.now)) }
+        ensures answer { AnswersEdit self.old.bytes.now path.now leaf.now result }
         // No other bytes change.
-        ensures bytes { (t : Tree) (a : Accepted self.old.bytes.now t)
-            → EditLeaves self.old.bytes.now a.value (path_of path.now) (leaf_of leaf.now)
-            (outcome_of result) self.new.bytes.now }
-        ensures document { (t : Tree) → Accepted self.old.bytes.now t
-            → Accepted self.new.bytes.now (change t (path_of path.now) (leaf_of leaf.now)) }
-        ensures image { (t : Tree) → Image t self.old.bytes.now
-            → Image (change t (path_of path.now) (leaf_of leaf.now)) self.new.bytes.now }
+        ensures bytes { WritesEdit self.old.bytes.now path.now leaf.now result self.new.bytes.now }
+        ensures document { ChangesArchive self.old.bytes.now path.now leaf.now self.new.bytes.now }
+        ensures image { ChangesImage self.old.bytes.now path.now leaf.now self.new.bytes.now }
     {
         cabinet_archives::set::<G>(self.bytes, path, leaf)
     }

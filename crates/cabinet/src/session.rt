@@ -1,8 +1,6 @@
 //! Sessions: the lines of a source, carried out in the bytes of an archive.
-ghost use Rattle.std.specs.Prelude.{◌≡◌, ℕ, ◌-◌, ◌^◌, ◌<◌, IfOk, IfErr, MatchResult, IsTrue};
-ghost use Rattle.cabinet.specs.Editing.{EditedByLines};
-ghost use Rattle.cabinet.specs.Steps.{Completed, Faulted};
-ghost use Rattle.cabinet.specs.Failures.{ReaderFails, WriterFails};
+ghost use Rattle.std.specs.Prelude.{◌≡◌, ◌-◌, ◌^◌, ◌<◌};
+ghost use Rattle.cabinet.specs.Calls.{ReaderEndsRun, WriterEndsRun, EditedByRun, RunsAll, RunsToFault};
 
 mod begun;
 mod carrying;
@@ -10,7 +8,7 @@ mod carrying;
 use crate::opened::Opened;
 use crate::source::Source;
 use archive_hash_probing::Scan;
-use archive_shape_writing::Writer;
+use archive_shape_layout::Writer;
 use begun::Begun;
 use carrying::{end_input, take_piece};
 use std::alloc::Global;
@@ -82,18 +80,11 @@ pub fn run<G: Scan, R: Source, W: Writer>(
     requires writer_counts { W.failures writer.old < 2 ^ 64 - 1 }
     ensures same { opened.new.bytes.ghost_name ≡ opened.old.bytes.ghost_name }
     // Regardless of whether reader and writer are observable.
-    ensures edits { MatchResult result (λ n. EditedByLines opened.old.bytes.now opened.new.bytes.now n.lines n.edits) (λ f. EditedByLines opened.old.bytes.now opened.new.bytes.now f.lines f.edits) }
-    ensures all { IsTrue R.OBSERVABLE → IsTrue W.OBSERVABLE
-        → IfOk result (λ n. Completed (R.left reader.old) opened.old.bytes.now opened.new.bytes.now
-        (W.contents writer.old) (W.contents writer.new) n.lines n.edits) }
-    ensures fault { IsTrue R.OBSERVABLE → IsTrue W.OBSERVABLE
-        → IfErr result (λ f. Faulted W.COUNTS (R.left reader.old)
-        (R.left reader.new) opened.old.bytes.now opened.new.bytes.now (W.contents writer.old)
-        (W.contents writer.new) f.lines f.edits f.cause) }
-    ensures reader_fails { MatchResult result (λ _. R.failures reader.new ≡ R.failures reader.old)
-        (λ f. ReaderFails f.cause (R.failures reader.old) (R.failures reader.new)) }
-    ensures writer_fails { MatchResult result (λ _. W.failures writer.new ≡ W.failures writer.old)
-        (λ f. WriterFails W.COUNTS f.cause (W.failures writer.old) (W.failures writer.new)) }
+    ensures edits { EditedByRun opened.old.bytes.now opened.new.bytes.now result }
+    ensures all { RunsAll R.Source W.Writer reader.old opened.old.bytes.now opened.new.bytes.now writer.old writer.new result }
+    ensures fault { RunsToFault R.Source W.Writer reader.old reader.new opened.old.bytes.now opened.new.bytes.now writer.old writer.new result }
+    ensures reader_fails { ReaderEndsRun R.Source reader.old reader.new result }
+    ensures writer_fails { WriterEndsRun W.Writer writer.old writer.new result }
 {
     let mut piece = [0u8; PIECE];
     let mut begun = Begun::new(alloc);

@@ -1,13 +1,11 @@
 //! The text of the document that an archive holds.
-ghost use Rattle.std.specs.Prelude.{◌≡◌, ◌-◌, ◌^◌, ◌<◌, IfOk, IfErr, MatchResult};
-ghost use Rattle.archive_shape_writing.specs.Writing.{Writes};
-ghost use Rattle.cabinet_archives.specs.Documents.Accepted.{Accepted};
-ghost use Rattle.cabinet_archives.specs.Documents.Audit.{IsRefusedFor};
+ghost use Rattle.std.specs.Prelude.{◌-◌, ◌^◌, ◌<◌, IfOk, IfErr};
+ghost use Rattle.cabinet_documents.specs.Accepted.{Accepted};
+ghost use Rattle.cabinet_documents.specs.Audit.{IsRefusedFor};
 ghost use Rattle.cabinet_archives.specs.Refused.{refusal_of};
-ghost use Rattle.cabinet_text_grammar.specs.Spelling.{text_of};
-ghost use Rattle.cabinet_text_grammar.specs.Tree.{Tree};
+ghost use Rattle.cabinet.specs.Calls.{WritesDocument};
 
-use archive_shape_writing::{Error, Writer};
+use archive_shape_layout::{Error, Writer};
 use cabinet_archives::{OpenRefusal, check, load};
 use cabinet_text_nodes::{Document, write_text};
 use std::alloc::Global;
@@ -31,9 +29,7 @@ pub fn write_document<W: Writer>(
     writer: &mut W,
 ) -> Result<Result<(), Error>, OpenRefusal>
     requires { W.failures writer.old < 2 ^ 64 - 1 }
-    ensures { MatchResult result
-        (λ written. (t : Tree) × Accepted archive.now t × Writes W.Writer writer.old writer.new (text_of t) written)
-        (λ refusal. IsRefusedFor archive.now (refusal_of refusal) × (writer.new ≡ writer.old)) }
+    ensures { WritesDocument W.Writer archive.now writer.old writer.new result }
 {
     let document = document_of(alloc, archive)?;
     Ok(write_text(&document, writer))

@@ -1,18 +1,16 @@
 //! Working in the bytes of a saved document.
-ghost use Rattle.std.specs.Prelude.{◌≡◌, ◌-◌, ◌^◌, ◌<◌, IsTrue, IfOk, IfErr, OnErr, MatchResult};
+ghost use Rattle.std.specs.Prelude.{◌≡◌, ◌-◌, ◌^◌, ◌<◌, IsTrue, IfOk, IfErr, OnErr};
 ghost use Rattle.cabinet_text_grammar.specs.Tree.{Tree};
-ghost use Rattle.cabinet_archives.specs.Documents.Accepted.{Accepted};
+ghost use Rattle.cabinet_documents.specs.Accepted.{Accepted};
 ghost use Rattle.cabinet_archives.specs.Saving.{HasNoImageFor};
-ghost use Rattle.cabinet.specs.Editing.{EditedByLines};
-ghost use Rattle.cabinet.specs.Steps.{Completed, Faulted};
+ghost use Rattle.cabinet.specs.Calls.{ReaderEndsRun, WriterEndsRun, EditedByRun, RunsAll, RunsToFault};
 ghost use Rattle.cabinet.specs.Headline.{WorksInPlace};
-ghost use Rattle.cabinet.specs.Failures.{ReaderFails, WriterFails};
 
 use crate::opened::Opened;
 use crate::session::{Count, RunFault, run};
 use crate::source::Source;
 use archive_hash_probing::Group;
-use archive_shape_writing::Writer;
+use archive_shape_layout::Writer;
 use cabinet_archives::{SaveRefusal, to_bytes};
 use cabinet_text_nodes::Document;
 use std::alloc::Global;
@@ -37,19 +35,11 @@ pub fn run_in<R: Source, W: Writer>(
     requires writer_counts { W.failures writer.old < 2 ^ 64 - 1 }
     ensures kept { ∥ ((t : Tree) × Accepted bytes.new t) ∥₁ }
     // Regardless of whether reader and writer are observable.
-    ensures edits { MatchResult result (λ n. EditedByLines bytes.old bytes.new n.lines n.edits)
-        (λ f. EditedByLines bytes.old bytes.new f.lines f.edits) }
-    ensures all { IsTrue R.OBSERVABLE → IsTrue W.OBSERVABLE
-        → IfOk result (λ n. Completed (R.left reader.old) bytes.old bytes.new (W.contents writer.old)
-        (W.contents writer.new) n.lines n.edits) }
-    ensures fault { IsTrue R.OBSERVABLE → IsTrue W.OBSERVABLE
-        → IfErr result (λ f. Faulted W.COUNTS (R.left reader.old)
-        (R.left reader.new) bytes.old bytes.new (W.contents writer.old)
-        (W.contents writer.new) f.lines f.edits f.cause) }
-    ensures reader_fails { MatchResult result (λ _. R.failures reader.new ≡ R.failures reader.old)
-        (λ f. ReaderFails f.cause (R.failures reader.old) (R.failures reader.new)) }
-    ensures writer_fails { MatchResult result (λ _. W.failures writer.new ≡ W.failures writer.old)
-        (λ f. WriterFails W.COUNTS f.cause (W.failures writer.old) (W.failures writer.new)) }
+    ensures edits { EditedByRun bytes.old bytes.new result }
+    ensures all { RunsAll R.Source W.Writer reader.old bytes.old bytes.new writer.old writer.new result }
+    ensures fault { RunsToFault R.Source W.Writer reader.old reader.new bytes.old bytes.new writer.old writer.new result }
+    ensures reader_fails { ReaderEndsRun R.Source reader.old reader.new result }
+    ensures writer_fails { WriterEndsRun W.Writer writer.old writer.new result }
 {
     let mut opened = Opened::<Group>::new(bytes);
     run(alloc, &mut opened, reader, writer)
@@ -69,12 +59,8 @@ pub fn work<R: Source, W: Writer>(
     ensures works { IsTrue R.OBSERVABLE → IsTrue W.OBSERVABLE
         → IfOk result (λ w. WorksInPlace W.COUNTS document.now (R.left reader.old) (R.left reader.new)
         (W.contents writer.old) (W.contents writer.new) w.bytes.items w.outcome) }
-    ensures reader_fails { IfOk result (λ w. MatchResult w.outcome
-        (λ _. R.failures reader.new ≡ R.failures reader.old)
-        (λ f. ReaderFails f.cause (R.failures reader.old) (R.failures reader.new))) }
-    ensures writer_fails { IfOk result (λ w. MatchResult w.outcome
-        (λ _. W.failures writer.new ≡ W.failures writer.old)
-        (λ f. WriterFails W.COUNTS f.cause (W.failures writer.old) (W.failures writer.new))) }
+    ensures reader_fails { IfOk result (λ w. ReaderEndsRun R.Source reader.old reader.new w.outcome) }
+    ensures writer_fails { IfOk result (λ w. WriterEndsRun W.Writer writer.old writer.new w.outcome) }
     ensures refused { IfErr result (HasNoImageFor document.now) }
     ensures unread { OnErr result (reader.new ≡ reader.old) }
     ensures unwritten { OnErr result (writer.new ≡ writer.old) }

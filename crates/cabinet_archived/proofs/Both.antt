@@ -1,9 +1,9 @@
 -- The keys of texts and those of wholes, each kind in a registry of its own.
 use Rattle.std.proofs.Common.{◌≡◌, ℕ, ◌+◌, ◌*◌, ◌/◌, ◌%◌, ◌==◌, cond, Bool, true, false, refl, sym, ap, subst, ◌∙◌, arith, eqb-true}
 use Rattle.std.specs.Prelude.{Result}
-use Rattle.archive_shape_writing.specs.Progress.{Progress, IsSame, IsSet, Begins, Starts, Finishes}
-use Rattle.archive_shape_writing.specs.Progress.Progress.{unmet, begun, ended}
-use Rattle.archive_shape_writing.specs.declared.error.Error.{Error}
+use Rattle.archive_shape_layout.specs.Progress.{Progress, IsSame, IsSet, Begins, Starts, Finishes}
+use Rattle.archive_shape_layout.specs.Progress.Progress.{unmet, begun, ended}
+use Rattle.archive_shape_layout.specs.declared.error.Error.{Error}
 use Rattle.archive_core_serializing.specs.Kept.{IsNoneMet}
 use Rattle.cabinet_archived.specs.Sharing.{of_both}
 

@@ -7,10 +7,10 @@ use Rattle.std.specs.BTreeMap.{BTreeMap, Updates, get_by_text}
 use Rattle.std.proofs.lemmas.Bool.{false_from_ne_true}
 use Rattle.std.proofs.lemmas.Map.Text.{btree_map_updates_text}
 use Rattle.std.proofs.lemmas.Slice.Eq.{bytes_eq-Decides}
-use Rattle.archive_shape_writing.specs.Progress.{Progress, IsSet}
-use Rattle.archive_shape_writing.specs.Progress.Progress.{ended}
-use Rattle.cabinet_documents.specs.TextGrammar.TextKey.{text_key, text_of_key}
-use Rattle.cabinet_documents.proofs.TextGrammar.KeyLemmas.{key_has_text_law, text_has_key_law}
+use Rattle.archive_shape_layout.specs.Progress.{Progress, IsSet}
+use Rattle.archive_shape_layout.specs.Progress.Progress.{ended}
+use Rattle.cabinet_text_grammar.specs.TextKey.{text_key, text_of_key}
+use Rattle.cabinet_text_grammar.proofs.KeyLemmas.{key_has_text_law, text_has_key_law}
 use Rattle.cabinet_archived.specs.Sharing.{progress_at}
 
 module _ (old : BTreeMap (String Global) ℕ) where

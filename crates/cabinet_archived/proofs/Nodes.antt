@@ -9,10 +9,10 @@ use Rattle.archive_shape_layout.specs.Content.{Names, shape_tagged}
 use Rattle.archive_shape_layout.specs.Content.Part.{at}
 use Rattle.archive_shape.specs.Kept.{Kept}
 use Rattle.archive_shape.specs.Checks.{Checks}
-use Rattle.archive_shape_writing.specs.declared.error.Error.{Error}
-use Rattle.archive_shape_writing.specs.declared.error.Error.TheVariants.{InvalidTag}
+use Rattle.archive_shape_layout.specs.declared.error.Error.{Error}
+use Rattle.archive_shape_layout.specs.declared.error.Error.TheVariants.{InvalidTag}
 use Rattle.archive_shape.specs.Key.{HeldAt}
-use Rattle.archive_forms_values.proofs.FormsLaws.Sizes.{behind_tag}
+use Rattle.archive_forms_laws.proofs.Sizes.{behind_tag}
 use Rattle.archive_forms_values.proofs.Contents.{named_checked}
 use Rattle.archive_forms_values.proofs.Tagged.{choice_checked, untagged_refused}
 use Rattle.archive_forms_values.specs.Parts.{HasValue, HasPayload}

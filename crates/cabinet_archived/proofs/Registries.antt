@@ -2,9 +2,9 @@
 use Rattle.std.specs.Prelude.{ℕ, nat_eq}
 use Rattle.std.specs.BTreeMap.{get_by_text}
 use Rattle.std.specs.HashMap.{get}
-use Rattle.archive_shape_writing.specs.Progress.{Progress}
+use Rattle.archive_shape_layout.specs.Progress.{Progress}
 use Rattle.archive_core_serializing.specs.Kept.{progress_kept}
-use Rattle.cabinet_documents.specs.TextGrammar.TextKey.{text_of_key}
+use Rattle.cabinet_text_grammar.specs.TextKey.{text_of_key}
 use Rattle.cabinet_archived.specs.Sharing.{progress_at, of_both}
 use Rattle.cabinet_archived.specs.declared.sharing.node_share.NodeShare.{NodeShare}
 

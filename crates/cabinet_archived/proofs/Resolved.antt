@@ -8,11 +8,11 @@ use Rattle.archive_shape_layout.specs.Bytes.{align_up}
 use Rattle.archive_shape_layout.specs.Shape.{Shape, size_of, align_of}
 use Rattle.archive_shape_layout.specs.Shape.Shape.{number, truth, text, option, choice, vector, table, index_map, tree as tree_shape, shared as shared_shape}
 use Rattle.archive_shape_layout.specs.Shape.Pointee.{str}
-use Rattle.archive_forms_laws.specs.ShapeCanonical.FirstFit.{first_fit}
+use Rattle.archive_shape_canonical.specs.FirstFit.{first_fit}
 use Rattle.archive_shape.specs.Bytes.{HasBytes, zeros, overwrite}
 use Rattle.archive_shape.proofs.Spared.{spares_same}
-use Rattle.archive_shape_writing.specs.declared.error.Error.{Error}
-use Rattle.archive_shape_writing.specs.declared.error.Error.TheVariants.{IsizeOverflow, LengthTooLarge}
+use Rattle.archive_shape_layout.specs.declared.error.Error.{Error}
+use Rattle.archive_shape_layout.specs.declared.error.Error.TheVariants.{IsizeOverflow, LengthTooLarge}
 use Rattle.archive_forms_laws.specs.State.{State}
 use Rattle.archive_forms_laws.specs.Spelling.{Spelling}
 use Rattle.archive_forms_laws.specs.Payloads.{payload_spelling}
@@ -32,9 +32,9 @@ use Rattle.archive_forms_laws.specs.Texts.{text_spelling}
 use Rattle.archive_btree_spelling.proofs.Maps.{map_spells}
 use Rattle.archive_btree_maps.specs.declared.map.resolving.BTreeMapResolver.{BTreeMapResolver}
 use Rattle.archive_hash_maps.specs.declared.map.resolving.HashTableResolver.{HashTableResolver}
-use Rattle.archive_index.proofs.Hash.HashWriting.SpellingTables.{length-own}
+use Rattle.archive_hash_writing.proofs.SpellingTables.{length-own}
 use Rattle.archive_forms_laws.proofs.Links.{length-link}
-use Rattle.archive_index.specs.IndexSpelling.declared.resolver.IndexMapResolver.{IndexMapResolver}
+use Rattle.archive_hash_writing.specs.declared.index.resolver.IndexMapResolver.{IndexMapResolver}
 use Rattle.std.specs.BTreeMap.{BTreeMap}
 use Rattle.cabinet_text_grammar.specs.Keys.{ordered, hashed, kept}
 use Rattle.archive_forms_values.specs.declared.reading.resolving.BoxResolver.{BoxResolver}

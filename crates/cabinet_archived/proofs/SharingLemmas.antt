@@ -6,16 +6,16 @@ use Rattle.archive_shape_layout.specs.Shape.Pointee.{str}
 use Rattle.archive_shape_layout.specs.Value.Value.{string}
 use Rattle.archive_shape_layout.specs.Holds.{Visit}
 use Rattle.archive_shape.specs.Bytes.{zeros}
-use Rattle.archive_shape_writing.specs.Writing.{WriterMembers}
-use Rattle.archive_shape_writing.specs.Progress.{IsSet}
-use Rattle.archive_shape_writing.specs.Progress.Progress.{unmet, ended}
-use Rattle.archive_shape_writing.specs.declared.error.Error.{Error}
-use Rattle.archive_shape_writing.specs.declared.error.Error.TheVariants.{PositionTooLarge}
-use Rattle.archive_forms_values.specs.FormsLaws.State.{State, Met, advanced, visit_of_key, IsNoneOf}
-use Rattle.archive_forms_values.specs.FormsLaws.Shared.{shared_padding, shared_piece, shared_resolver, shared_met, shared_fits, shared_refused, first_piece}
-use Rattle.archive_forms_values.specs.FormsLaws.Texts.{boxed_text_spelling}
-use Rattle.archive_forms_values.specs.FormsLaws.Serializing.{IsAt, LaysData, of_data, progress, progress_by, is_begun}
-use Rattle.archive_forms_values.proofs.FormsLaws.Progress.{unmet_key, ended_key}
+use Rattle.archive_shape_layout.specs.Writing.{WriterMembers}
+use Rattle.archive_shape_layout.specs.Progress.{IsSet}
+use Rattle.archive_shape_layout.specs.Progress.Progress.{unmet, ended}
+use Rattle.archive_shape_layout.specs.declared.error.Error.{Error}
+use Rattle.archive_shape_layout.specs.declared.error.Error.TheVariants.{PositionTooLarge}
+use Rattle.archive_forms_laws.specs.State.{State, Met, advanced, visit_of_key, IsNoneOf}
+use Rattle.archive_forms_laws.specs.Shared.{shared_padding, shared_piece, shared_resolver, shared_met, shared_fits, shared_refused, first_piece}
+use Rattle.archive_forms_laws.specs.Texts.{boxed_text_spelling}
+use Rattle.archive_forms_laws.specs.Serializing.{IsAt, LaysData, of_data, progress, progress_by, is_begun}
+use Rattle.archive_forms_laws.proofs.Progress.{unmet_key, ended_key}
 use Rattle.archive_forms_writing.proofs.Laying.{Wrote, Stops, Fails, wrote_both, stopped_first, stopped_after, as_data, fails_as_data}
 use Rattle.cabinet_documents.specs.SharedKeys.{key_of_text}
 use Rattle.cabinet_archived.specs.Sharing.{text_padding}

@@ -9,11 +9,11 @@ use Rattle.archive_shape_layout.specs.Bytes.{align_up}
 use Rattle.archive_shape_layout.specs.Shape.{Shape, size_of, align_of}
 use Rattle.archive_shape_layout.specs.Value.Value.{group}
 use Rattle.archive_shape_layout.specs.Value.Values.{more_values}
-use Rattle.archive_forms_laws.specs.ShapeCanonical.Settled.{Fit}
+use Rattle.archive_shape_canonical.specs.Settled.{Fit}
 use Rattle.archive_shape.specs.Bytes.{zeros}
-use Rattle.archive_shape_writing.specs.Writing.{WriterMembers}
-use Rattle.archive_shape_writing.specs.declared.error.Error.{Error}
-use Rattle.archive_shape_writing.specs.declared.error.Error.TheVariants.{IsizeOverflow, LengthTooLarge, PositionTooLarge}
+use Rattle.archive_shape_layout.specs.Writing.{WriterMembers}
+use Rattle.archive_shape_layout.specs.declared.error.Error.{Error}
+use Rattle.archive_shape_layout.specs.declared.error.Error.TheVariants.{IsizeOverflow, LengthTooLarge, PositionTooLarge}
 use Rattle.archive_forms_laws.specs.State.{State, Keys}
 use Rattle.archive_forms_laws.specs.Spelling.{Spelling, state_after}
 use Rattle.archive_forms_laws.specs.Forms.{seen_as, kept_as}
@@ -34,17 +34,17 @@ use Rattle.std.specs.BTreeMap.{BTreeMap}
 use Rattle.archive_shape_layout.specs.Shape.Shape.{text}
 use Rattle.archive_btree.specs.Owned.{entries_spelling}
 use Rattle.std.specs.Hash as fed
-use Rattle.archive_forms_laws.specs.ShapeCanonical.Hash.{text_hash}
-use Rattle.archive_index.specs.Hash.Owned as table
+use Rattle.archive_shape_canonical.specs.Hash.{text_hash}
+use Rattle.archive_hash.specs.Owned as table
 use Rattle.archive_hash_maps.specs.declared.map.resolving.HashTableResolver.{HashTableResolver}
 use Rattle.archive_hash_probing.specs.Inputs.{input_hash}
-use Rattle.archive_index.specs.Hash.HashWriting.Tables.{table_spelling, hashed_spelling as items_spelling}
-use Rattle.archive_index.proofs.Hash.HashWriting.Seen.{hashed_seen}
-use Rattle.archive_index.proofs.Hash.HashWriting.TextHash.{text_fed}
-use Rattle.archive_index.specs.IndexSpelling.Maps.{index_spelling, map_spelling}
-use Rattle.archive_index.specs.IndexSpelling.Resolvers.{resolver_of, positions_of, pairs_spelling as index_of}
-use Rattle.archive_index.specs.IndexSpelling.declared.resolver.IndexMapResolver.{IndexMapResolver}
-use Rattle.archive_index.proofs.IndexSpelling.Seen.{map_seen}
+use Rattle.archive_hash_writing.specs.Tables.{table_spelling, hashed_spelling as items_spelling}
+use Rattle.archive_hash_writing.proofs.Seen.{hashed_seen}
+use Rattle.archive_hash_writing.proofs.TextHash.{text_fed}
+use Rattle.archive_hash_writing.specs.IndexMaps.{index_spelling, map_spelling}
+use Rattle.archive_hash_writing.specs.IndexResolvers.{resolver_of, positions_of, pairs_spelling as index_of}
+use Rattle.archive_hash_writing.specs.declared.index.resolver.IndexMapResolver.{IndexMapResolver}
+use Rattle.archive_hash_writing.proofs.IndexSeen.{map_seen}
 use Rattle.archive_btree_spelling.specs.Maps.{btree_spelling}
 use Rattle.archive_btree_spelling.proofs.Seen.{btree_seen, seen_entry}
 use Rattle.archive_btree_maps.specs.declared.map.resolving.BTreeMapResolver.{BTreeMapResolver}

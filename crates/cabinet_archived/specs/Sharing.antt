@@ -1,7 +1,7 @@
 -- The progress that is kept of shared texts and of wholes, and the padding that follows a text's bytes.
 use Rattle.std.specs.Prelude.{ℕ, ◌/◌, ◌%◌, ◌==◌, cond, List, [], ◌∷◌, Option, Some, None}
-use Rattle.archive_shape_writing.specs.Progress.{Progress}
-use Rattle.archive_shape_writing.specs.Progress.Progress.{unmet, ended}
+use Rattle.archive_shape_layout.specs.Progress.{Progress}
+use Rattle.archive_shape_layout.specs.Progress.Progress.{unmet, ended}
 
 -- by the position at which the text was written, if it was; no text is only begun
 abbrev pub progress_at : Option ℕ → Progress ℕ

@@ -9,13 +9,13 @@ ghost use Rattle.archive_shape.specs.Checks.{Checks, Moves};
 ghost use Rattle.cabinet_documents.specs.Node.{node_shape, pair_shape, whole_shape, KnowsNode};
 
 use crate::{ArchivedNode, tag};
-use archive_btree_nodes::check_btree_each;
+use archive_btree_maps::nodes::check_btree_each;
 use archive_forms_rc::{ArchivedRcStr, RcFlavor, check_rc_each};
 use archive_forms_values::{
     ArchivedBox, ArchivedString, Entry, check_box_each, check_option_each, check_tuple2_each,
     check_vec_each,
 };
-use archive_hash_checking::check_table_each;
+use archive_hash_maps::checking::check_table_each;
 use archive_index::check_index_map_each;
 use archive_shape::{ArchivedI64, CheckBytes, Error, SharedContext};
 use std::alloc::Global;

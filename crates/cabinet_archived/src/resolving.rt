@@ -14,13 +14,14 @@ use crate::{ArchivedNode, NodeIn, tag};
 use archive_btree_maps::{ArchivedBTreeMap, BTreeMapResolver};
 use archive_forms_rc::{ArchivedRc, ArchivedRcStr, RcFlavor, RcResolver};
 use archive_forms_values::{
-    ArchivedBox, ArchivedOption, ArchivedString, ArchivedVec, BoxResolver, StringResolver,
-    VecResolver,
+    ArchivedBox, ArchivedOption, ArchivedString, ArchivedVec, BoxResolver, SOME_TAG,
+    StringResolver, VecResolver,
 };
 use archive_forms_writing::Archive;
+use archive_hash::LOAD_FACTOR;
 use archive_hash_maps::{ArchivedHashMap, HashMapResolver, HashTableResolver};
 use archive_hash_probing::FxHasher64;
-use archive_index::{ArchivedIndexMap, IndexMapResolver, LOAD_FACTOR};
+use archive_index::{ArchivedIndexMap, IndexMapResolver};
 use archive_shape::{Error, Place};
 use cabinet_documents::NodeResolver;
 use cabinet_text_nodes::Node;
@@ -154,7 +155,7 @@ fn resolve_maybe(
     let Some(kept) = resolver else {
         return Ok(());
     };
-    out[start] = tag::INT;
+    out[start] = SOME_TAG;
     let place = Place::within(out, start + 4, pos + 4);
     ArchivedBox::<ArchivedNode>::resolve_from_raw_parts(kept, place)
 }

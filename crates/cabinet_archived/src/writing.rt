@@ -245,7 +245,7 @@ fn serialize_hashed<S: NodeSharing>(
         (pairs_within (table_of wholes.now) map.now.entries)
         serializer.old serializer.new result }
 {
-    archive_index::serialize_hashed_entries_with_each::<String, Node, NodesIn<'_>, S, _, _>(
+    archive_hash::serialize_entries_with_each::<String, Node, NodesIn<'_>, S, _, _>(
         &NodesIn { wholes },
         map,
         serializer,

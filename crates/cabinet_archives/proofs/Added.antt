@@ -8,13 +8,13 @@ use Rattle.std.specs.declared.cmp.Ordering.{Ordering}
 use Rattle.std.specs.declared.cmp.Ordering.TheVariants.{Less, Equal, Greater}
 use Rattle.std.specs.Cmp.Lexicographic.{slice_cmp, nat_list_cmp_total}
 use Rattle.std.proofs.lemmas.Map.Lookups.{exact_bytes}
-use Rattle.cabinet_text_nodes.specs.TextGrammar.Keys.{MapKind, ordered, hashed, IsAboveLast}
-use Rattle.cabinet_text_nodes.specs.TextGrammar.Tree.{Tree, Pairs, no_pairs, more_pairs, ArePairs}
-use Rattle.cabinet_archived.specs.Documents.Order.{inserted, arranged}
+use Rattle.cabinet_text_grammar.specs.Keys.{MapKind, ordered, hashed, IsAboveLast}
+use Rattle.cabinet_text_grammar.specs.Tree.{Tree, Pairs, no_pairs, more_pairs, ArePairs}
+use Rattle.cabinet_documents.specs.Order.{inserted, arranged}
 use Rattle.cabinet_text_nodes.specs.View.{node_tree, node_pairs}
 use Rattle.cabinet_text_nodes.specs.declared.node.Node.{Node}
 use Rattle.cabinet_archives.specs.Loading.{added, all_added}
-use Rattle.cabinet_archived.proofs.Documents.ByKey.{Lacks, AreKeysDistinct, pair_keys, keys_distinct, distinct}
+use Rattle.cabinet_documents.proofs.ByKey.{Lacks, AreKeysDistinct, pair_keys, keys_distinct, distinct}
 
 abbrev order : List ℕ → List ℕ → Ordering
 order k l = slice_cmp nat_cmp k l

@@ -3,23 +3,23 @@ use Rattle.std.proofs.Common.{◌≡◌, ℕ, Bor, Bool, true, false, cond, List
 use Rattle.std.specs.Prelude.{⊤, All}
 use Rattle.std.specs.Option.{option_map}
 use Rattle.std.proofs.lemmas.List.Elements.{All-nil, All-cons, All-head, All-tail}
-use Rattle.archive_shape.specs.ShapeLayout.Value.{Value}
-use Rattle.archive_shape.specs.ShapeLayout.Shape.Shape.{text}
-use Rattle.archive_shape.specs.ShapeLayout.Content.{members}
-use Rattle.archive_shape.specs.ShapeLayout.Content.Part.{at}
+use Rattle.archive_shape_layout.specs.Value.{Value}
+use Rattle.archive_shape_layout.specs.Shape.Shape.{text}
+use Rattle.archive_shape_layout.specs.Content.{members}
+use Rattle.archive_shape_layout.specs.Content.Part.{at}
 use Rattle.archive_shape.specs.declared.references.refs.Ref.{Ref}
-use Rattle.archive_forms_values.specs.FormsLaws.Text.{HasText}
+use Rattle.archive_forms_laws.specs.Text.{HasText}
 use Rattle.archive_forms_values.specs.Parts.{HasValue}
 use Rattle.archive_forms_values.specs.declared.text.string.ArchivedString.{ArchivedString}
-use Rattle.archive_btree_walking.specs.BtreeLayout.Tree.{Tree, items}
-use Rattle.archive_btree_walking.specs.BtreeLayout.Reading.{Place}
-use Rattle.archive_btree_walking.specs.Maps.{IsMapAt, IsMapOf}
-use Rattle.archive_btree_walking.specs.Refs.{key_at}
-use Rattle.archive_btree_walking.proofs.Roots.{tree_of_value}
-use Rattle.cabinet_archived.specs.Documents.Node.{node_shape, node_names, KnowsNode}
-use Rattle.cabinet_archived.specs.Documents.Order.{ascend, is_below}
-use Rattle.cabinet_archived.specs.Documents.Table.{item_keys}
-use Rattle.cabinet_archived.specs.Documents.Walk.{Stop, Walks}
+use Rattle.archive_btree_layout.specs.Tree.{Tree, items}
+use Rattle.archive_btree_layout.specs.Reading.{Place}
+use Rattle.archive_btree_maps.specs.Maps.{IsMapAt, IsMapOf}
+use Rattle.archive_btree_maps.specs.Refs.{key_at}
+use Rattle.archive_btree_maps.proofs.Roots.{tree_of_value}
+use Rattle.cabinet_documents.specs.Node.{node_shape, node_names, KnowsNode}
+use Rattle.cabinet_documents.specs.Order.{ascend, is_below}
+use Rattle.cabinet_documents.specs.Table.{item_keys}
+use Rattle.cabinet_documents.specs.Walk.{Stop, Walks}
 use Rattle.cabinet_archives.specs.Keyed.{knows_pairs}
 use Rattle.cabinet_archives.specs.Ordered.{map_shape}
 use Rattle.cabinet_archives.proofs.Texts.{text_at, texts_at, texts_there, walked_keys}

@@ -1,27 +1,27 @@
 -- The root of bytes that access accepts is audited, and the audit decides whether the bytes are an archive.
 use Rattle.std.proofs.Common.{◌≡◌, ◌≢◌, ℕ, ◌<◌, ◌^◌, inl, inr, List, [], length, Result, Ok, Err, refl, sym, subst, ◌∙◌, ap}
 use Rattle.std.specs.Prelude.{OnOk, IfErr}
-use Rattle.archive_shape.specs.ShapeLayout.Content.Part.{at}
-use Rattle.archive_shape.specs.ShapeLayout.Holds.{root_position}
-use Rattle.archive_forms_values.specs.ShapeCanonical.Canonical.{AreBytes}
+use Rattle.archive_shape_layout.specs.Content.Part.{at}
+use Rattle.archive_shape_layout.specs.Holds.{root_position}
+use Rattle.archive_shape_canonical.specs.Canonical.{AreBytes}
 use Rattle.archive_forms_values.specs.Parts.{HasValue}
 use Rattle.archive_shape.specs.Kept.{Kept, Records, range_of}
 use Rattle.archive_shape.specs.Checks.{Checks}
-use Rattle.archive_shape_writing.specs.declared.error.Error.{Error}
-use Rattle.archive_shape_writing.specs.declared.error.Error.TheVariants.{OutOfMemory}
+use Rattle.archive_shape_layout.specs.declared.error.Error.{Error}
+use Rattle.archive_shape_layout.specs.declared.error.Error.TheVariants.{OutOfMemory}
 use Rattle.archive_core_validation.specs.Depth.{whole, most_of, most_within, none_seen, with_seen}
 use Rattle.archive_core_validation.specs.Visits.{seen_in}
 use Rattle.archive_core_validation.specs.declared.archive_validator.ArchiveValidator.{ArchiveValidator}
 use Rattle.archive_core_validation.specs.declared.shared_validator.SharedValidator.{SharedValidator}
 use Rattle.archive_core_validation.specs.Access.{root_at, whole_range, check_of, IsAccepted, IsRefused, Decides}
 use Rattle.archive_core_validation.proofs.Rooted.{decided as decides, decided_has_value}
-use Rattle.cabinet_text_nodes.specs.TextGrammar.Tree.{Tree}
-use Rattle.cabinet_archived.specs.Documents.Node.{node_shape, node_names, KnowsNode}
-use Rattle.cabinet_archived.specs.Documents.Accepted.{Accepted}
-use Rattle.cabinet_archived.specs.Documents.Audit.{first_of, IsRefusedFor}
-use Rattle.cabinet_archived.specs.Documents.Laws.{AuditDecided}
-use Rattle.cabinet_archived.proofs.Documents.Deciding.{audit_decides_law}
-use Rattle.cabinet_archived.proofs.Documents.NodeWalks.{BehindWalk, behind_walk}
+use Rattle.cabinet_text_grammar.specs.Tree.{Tree}
+use Rattle.cabinet_documents.specs.Node.{node_shape, node_names, KnowsNode}
+use Rattle.cabinet_documents.specs.Accepted.{Accepted}
+use Rattle.cabinet_documents.specs.Audit.{first_of, IsRefusedFor}
+use Rattle.cabinet_documents.specs.Laws.{AuditDecided}
+use Rattle.cabinet_documents.proofs.Deciding.{audit_decides_law}
+use Rattle.cabinet_documents.proofs.NodeWalks.{BehindWalk, behind_walk}
 use Rattle.cabinet_archives.specs.Sound.{AuditsTo}
 use Rattle.cabinet_archives.specs.Refused.{refusal_of, IsRefusalFor, for_memory, for_access}
 use Rattle.cabinet_archives.specs.declared.opening.refusal.OpenRefusal.{OpenRefusal}

@@ -3,30 +3,30 @@ use Rattle.std.proofs.Common.{MatchResult, ◌≡◌, ◌∙◌, ℕ, zero, suc,
 use Rattle.std.specs.Prelude.{⊤, All}
 use Rattle.std.specs.List.{flat_map}
 use Rattle.std.proofs.lemmas.List.Elements.{All-nil, All-cons}
-use Rattle.archive_shape.specs.ShapeLayout.Shape.{Shape, size_of}
-use Rattle.archive_shape.specs.ShapeLayout.Shape.Shape.{text, option, vector}
-use Rattle.archive_shape.specs.ShapeLayout.Value.{Value, Values}
-use Rattle.archive_shape.specs.ShapeLayout.Value.Values.{no_values, more_values}
-use Rattle.archive_shape.specs.ShapeLayout.Content.{Names, Part, elements, members}
-use Rattle.archive_shape.specs.ShapeLayout.Content.Part.{at}
+use Rattle.archive_shape_layout.specs.Shape.{Shape, size_of}
+use Rattle.archive_shape_layout.specs.Shape.Shape.{text, option, vector}
+use Rattle.archive_shape_layout.specs.Value.{Value, Values}
+use Rattle.archive_shape_layout.specs.Value.Values.{no_values, more_values}
+use Rattle.archive_shape_layout.specs.Content.{Names, Part, elements, members}
+use Rattle.archive_shape_layout.specs.Content.Part.{at}
 use Rattle.archive_shape.specs.declared.references.refs.Ref.{Ref}
-use Rattle.archive_shape.specs.ShapeLayout.Bytes.{align_up}
+use Rattle.archive_shape_layout.specs.Bytes.{align_up}
 use Rattle.archive_forms_values.specs.Parts.{HasValue, HasElements, PointsTo, IsNoneAt, IsSomeAt, IsVecAt, some_position}
-use Rattle.archive_btree_walking.specs.BtreeLayout.Reading.{Place}
-use Rattle.archive_btree_walking.specs.BtreeLayout.Tree.{Tree, items}
-use Rattle.archive_btree_walking.specs.Maps.{IsMapAt, IsMapOf, AreEntriesAt}
-use Rattle.archive_btree_walking.specs.Refs.{value_at}
-use Rattle.archive_btree_walking.proofs.Roots.{tree_of_value}
-use Rattle.cabinet_archived.specs.Documents.Node.{node_shape, node_names, KnowsNode}
-use Rattle.cabinet_archived.specs.Documents.Order.{ascend}
-use Rattle.cabinet_archived.specs.Documents.Table.{item_keys}
-use Rattle.cabinet_archived.specs.Documents.Walk.{Stop, Walks, WalkAll}
-use Rattle.cabinet_archived.specs.Documents.Audit as audit
-use Rattle.cabinet_archived.specs.Documents.Audit.{too_deep, keys_not_ascending, unless, faults, first_of}
+use Rattle.archive_btree_layout.specs.Reading.{Place}
+use Rattle.archive_btree_layout.specs.Tree.{Tree, items}
+use Rattle.archive_btree_maps.specs.Maps.{IsMapAt, IsMapOf, AreEntriesAt}
+use Rattle.archive_btree_maps.specs.Refs.{value_at}
+use Rattle.archive_btree_maps.proofs.Roots.{tree_of_value}
+use Rattle.cabinet_documents.specs.Node.{node_shape, node_names, KnowsNode}
+use Rattle.cabinet_documents.specs.Order.{ascend}
+use Rattle.cabinet_documents.specs.Table.{item_keys}
+use Rattle.cabinet_documents.specs.Walk.{Stop, Walks, WalkAll}
+use Rattle.cabinet_documents.specs.Audit as audit
+use Rattle.cabinet_documents.specs.Audit.{too_deep, keys_not_ascending, unless, faults, first_of}
 use Rattle.cabinet_archived.specs.declared.node.ArchivedNode.{ArchivedNode}
-use Rattle.cabinet_archived.proofs.Documents.Places.{node_here, option_here, list_here, part_of, whole_here}
-use Rattle.cabinet_archived.proofs.Documents.NodeWalks.{OptionWalk, walks_none, walks_some, option_walk, list_walk, element_walk, element_count, whole_walk}
-use Rattle.cabinet_archived.proofs.Documents.TreeWalks.{ItemsWalk, no_items, more_items}
+use Rattle.cabinet_documents.proofs.Places.{node_here, option_here, list_here, part_of, whole_here}
+use Rattle.cabinet_documents.proofs.NodeWalks.{OptionWalk, walks_none, walks_some, option_walk, list_walk, element_walk, element_count, whole_walk}
+use Rattle.cabinet_documents.proofs.TreeWalks.{ItemsWalk, no_items, more_items}
 use Rattle.cabinet_archives.specs.Keyed.{knows_pairs}
 use Rattle.cabinet_archives.specs.declared.opening.refusal.OpenRefusal.{OpenRefusal}
 use Rattle.cabinet_archives.specs.declared.opening.refusal.OpenRefusal.TheVariants as refusal

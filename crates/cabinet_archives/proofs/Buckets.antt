@@ -1,19 +1,19 @@
 -- The bucket of a key: one position, which is that of the pair with the bucket's number.
 use Rattle.std.proofs.Common.{◌≡◌, ℕ, ◌+◌, ◌-◌, ◌*◌, ◌<◌, List, take, Some, sym, ap, subst, ◌∙◌}
 use Rattle.std.specs.List.{slice_get}
-use Rattle.archive_shape.specs.ShapeLayout.Bytes.{window, word_at}
-use Rattle.archive_shape.specs.ShapeLayout.Value.{Value, Values}
-use Rattle.archive_shape.specs.ShapeLayout.Value.Value.{group}
-use Rattle.archive_shape.specs.ShapeLayout.Content.{control_count}
+use Rattle.archive_shape_layout.specs.Bytes.{window, word_at}
+use Rattle.archive_shape_layout.specs.Value.{Value, Values}
+use Rattle.archive_shape_layout.specs.Value.Value.{group}
+use Rattle.archive_shape_layout.specs.Content.{control_count}
 use Rattle.archive_shape.specs.Key.{HeldAt}
-use Rattle.archive_forms_values.specs.ShapeLayout.Path.{value_in}
-use Rattle.archive_hash_walking.specs.Tables.{Buckets, full_places, item_position, item_positions, IsTableAt, IsTableOf}
-use Rattle.archive_hash_walking.specs.Tables.IsTableAt.{has_none, has_buckets}
-use Rattle.archive_hash_walking.proofs.Read.{one_table, table_is_read}
-use Rattle.cabinet_archived.specs.Documents.Denotes.{pair_value}
-use Rattle.cabinet_archived.specs.Documents.Node.{node_shape, pair_shape, KnowsNode}
-use Rattle.cabinet_archived.specs.Documents.Table.{full_from}
-use Rattle.cabinet_archived.proofs.Documents.TableSteps.{IsItemOf}
+use Rattle.archive_shape_layout.specs.Path.{value_in}
+use Rattle.archive_hash_maps.specs.Tables.{Buckets, full_places, item_position, item_positions, IsTableAt, IsTableOf}
+use Rattle.archive_hash_maps.specs.Tables.IsTableAt.{has_none, has_buckets}
+use Rattle.archive_hash_maps.proofs.Read.{one_table, table_is_read}
+use Rattle.cabinet_documents.specs.Denotes.{pair_value}
+use Rattle.cabinet_documents.specs.Node.{node_shape, pair_shape, KnowsNode}
+use Rattle.cabinet_documents.specs.Table.{full_from}
+use Rattle.cabinet_documents.proofs.TableSteps.{IsItemOf}
 use Rattle.cabinet_archives.specs.Hashed.{table_shape, HasBucket}
 use Rattle.cabinet_archives.specs.Keyed.{HasPair, knows_pairs}
 use Rattle.cabinet_archives.proofs.PairPositions.{one_pair, pair_node}

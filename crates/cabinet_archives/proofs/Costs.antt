@@ -2,9 +2,9 @@
 use Rattle.std.proofs.Common.{◌≡◌, ℕ, ◌+◌, ◌-◌, ◌^◌, min, List, [], ◌∷◌, ◌++◌, Bor, refl, sym, subst, ◌∙◌, arith}
 use Rattle.archive_shape.specs.Key.{HeldAt}
 use Rattle.archive_forms_values.specs.Parts.{HasValue}
-use Rattle.cabinet_text_nodes.specs.TextGrammar.Path.{Step, key, place, inside}
-use Rattle.cabinet_archived.specs.Documents.Node.{node_shape, KnowsNode}
-use Rattle.cabinet_archived.specs.Documents.Table.{hashed_at, kept_at, table_of}
+use Rattle.cabinet_text_grammar.specs.Path.{Step, key, place, inside}
+use Rattle.cabinet_documents.specs.Node.{node_shape, KnowsNode}
+use Rattle.cabinet_documents.specs.Table.{hashed_at, kept_at, table_of}
 use Rattle.cabinet_archived.specs.Kind.{IsTagged}
 use Rattle.cabinet_archives.specs.Cost.{Compares, Searches, StepTakes, in_ordered, in_hashed, in_kept, no_look_up, takes_none, takes_step, takes_no_more, CountsPath}
 use Rattle.cabinet_archives.specs.Found.{Reaches, ReachesNone}

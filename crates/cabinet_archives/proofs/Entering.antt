@@ -1,13 +1,13 @@
 -- Whether a path leads into a whole, one step after the other.
 use Rattle.std.proofs.Common.{◌≡◌, ℕ, zero, suc, Bool, true, false, ◌||◌, List, [], ◌∷◌, ◌++◌, Option, Some, None, refl, sym, ap, ◌∙◌}
-use Rattle.cabinet_text_nodes.specs.TextGrammar.Tree.{Tree, leaf, shared, nothing, just, list, map, whole, Trees, no_trees, more_trees}
-use Rattle.cabinet_text_nodes.specs.TextGrammar.Path.{Step, key, place, inside, node_at, node_in, node_by, enters, enters_in}
-use Rattle.cabinet_archived.specs.Documents.Denotes.{Denotes, tagged_value}
-use Rattle.cabinet_archived.specs.Documents.Denotes.Denotes.{denotes_truth, denotes_number, denotes_text, denotes_shared, denotes_nothing, denotes_some, denotes_list, denotes_ordered, denotes_hashed, denotes_kept, denotes_whole}
-use Rattle.cabinet_archived.proofs.Documents.ByKey.{enters_from, enters_by_node}
-use Rattle.cabinet_archived.proofs.Documents.Changing.{of_whole}
-use Rattle.archive_shape.specs.ShapeLayout.Value.{Value}
-use Rattle.archive_shape.specs.ShapeLayout.Value.Value.{counted}
+use Rattle.cabinet_text_grammar.specs.Tree.{Tree, leaf, shared, nothing, just, list, map, whole, Trees, no_trees, more_trees}
+use Rattle.cabinet_text_grammar.specs.Path.{Step, key, place, inside, node_at, node_in, node_by, enters, enters_in}
+use Rattle.cabinet_documents.specs.Denotes.{Denotes, tagged_value}
+use Rattle.cabinet_documents.specs.Denotes.Denotes.{denotes_truth, denotes_number, denotes_text, denotes_shared, denotes_nothing, denotes_some, denotes_list, denotes_ordered, denotes_hashed, denotes_kept, denotes_whole}
+use Rattle.cabinet_documents.proofs.ByKey.{enters_from, enters_by_node}
+use Rattle.cabinet_documents.proofs.Changing.{of_whole}
+use Rattle.archive_shape_layout.specs.Value.{Value}
+use Rattle.archive_shape_layout.specs.Value.Value.{counted}
 use Rattle.cabinet_text_nodes.proofs.Paths.{then_at, first_step}
 use Rattle.cabinet_archives.proofs.Stepping.{IsNotInside}
 

@@ -3,23 +3,23 @@ use Rattle.std.proofs.Common.{◌≡◌, ℕ, zero, suc, ◌+◌, ◌<◌, Bool,
 use Rattle.std.specs.Prelude.{⊤}
 use Rattle.std.specs.List.{slice_get}
 use Rattle.std.proofs.lemmas.Bool.{ltb-true, ltb-false}
-use Rattle.archive_shape.specs.ShapeLayout.Bytes.{word_at, target_from}
-use Rattle.archive_shape.specs.ShapeLayout.Shape.Shape.{text}
-use Rattle.archive_shape.specs.ShapeLayout.Value.{Value, Values}
-use Rattle.archive_shape.specs.ShapeLayout.Value.Value.{string, group}
-use Rattle.archive_shape.specs.ShapeLayout.Value.Values.{no_values, more_values}
+use Rattle.archive_shape_layout.specs.Bytes.{word_at, target_from}
+use Rattle.archive_shape_layout.specs.Shape.Shape.{text}
+use Rattle.archive_shape_layout.specs.Value.{Value, Values}
+use Rattle.archive_shape_layout.specs.Value.Value.{string, group}
+use Rattle.archive_shape_layout.specs.Value.Values.{no_values, more_values}
 use Rattle.archive_shape.specs.Key.{HeldAt}
-use Rattle.archive_forms_values.specs.ShapeLayout.Path.{value_in}
-use Rattle.archive_forms_values.specs.FormsLaws.Text.{IsText}
-use Rattle.archive_btree_walking.specs.BtreeLayout.Reading.{Place, HasNode}
-use Rattle.archive_btree_walking.specs.BtreeLayout.Tree.{Tree, items}
-use Rattle.archive_btree_walking.specs.Maps.{IsMapAt, IsMapOf, IsEntryAt, AreEntriesAt}
-use Rattle.archive_btree_walking.specs.Maps.IsMapAt.{has_none, has_root}
-use Rattle.archive_btree_walking.proofs.One.{one_map}
-use Rattle.archive_btree_walking.proofs.Roots.{tree_of_value}
-use Rattle.cabinet_archived.proofs.Documents.BtreeSpelling.ItemPlaces.{IsNth, HasItem}
-use Rattle.cabinet_archived.specs.Documents.Node.{node_shape, KnowsNode}
-use Rattle.cabinet_archived.specs.Documents.Denotes.{pair_value}
+use Rattle.archive_shape_layout.specs.Path.{value_in}
+use Rattle.archive_forms_laws.specs.Text.{IsText}
+use Rattle.archive_btree_layout.specs.Reading.{Place, HasNode}
+use Rattle.archive_btree_layout.specs.Tree.{Tree, items}
+use Rattle.archive_btree_maps.specs.Maps.{IsMapAt, IsMapOf, IsEntryAt, AreEntriesAt}
+use Rattle.archive_btree_maps.specs.Maps.IsMapAt.{has_none, has_root}
+use Rattle.archive_btree_maps.proofs.One.{one_map}
+use Rattle.archive_btree_maps.proofs.Roots.{tree_of_value}
+use Rattle.archive_btree_spelling.proofs.ItemPlaces.{IsNth, HasItem}
+use Rattle.cabinet_documents.specs.Node.{node_shape, KnowsNode}
+use Rattle.cabinet_documents.specs.Denotes.{pair_value}
 use Rattle.cabinet_archives.specs.Keyed.{knows_pairs}
 use Rattle.cabinet_archives.specs.Ordered.{map_shape, HasEntry}
 use Rattle.cabinet_archives.proofs.Texts.{text_is, text_there, held_text}

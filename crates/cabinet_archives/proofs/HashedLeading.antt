@@ -3,24 +3,24 @@ use Rattle.std.proofs.Common.{◌≡◌, ℕ, ◌^◌, ◌<◌, ◌≤◌, map, 
 use Rattle.std.specs.List.{slice_get}
 use Rattle.std.specs.Option.{option_map}
 use Rattle.std.proofs.Math.Logic.{∥∥₁_map}
-use Rattle.archive_shape.specs.ShapeLayout.Shape.Shape.{text}
-use Rattle.archive_shape.specs.ShapeLayout.Shape.Shapes.{no_shapes}
-use Rattle.archive_shape.specs.ShapeLayout.Value.{Value}
-use Rattle.archive_shape.specs.ShapeLayout.Content.{members}
-use Rattle.archive_shape.specs.ShapeLayout.Content.Part.{at}
+use Rattle.archive_shape_layout.specs.Shape.Shape.{text}
+use Rattle.archive_shape_layout.specs.Shape.Shapes.{no_shapes}
+use Rattle.archive_shape_layout.specs.Value.{Value}
+use Rattle.archive_shape_layout.specs.Content.{members}
+use Rattle.archive_shape_layout.specs.Content.Part.{at}
 use Rattle.archive_shape.specs.Key.{HeldAt}
 use Rattle.archive_forms_values.specs.Fields.{field_position}
 use Rattle.archive_forms_values.specs.Parts.{HasValue}
-use Rattle.archive_hash_probing.specs.ShapeCanonical.FirstFit.{hash_tag}
-use Rattle.archive_hash_probing.specs.ShapeCanonical.Hash.{text_hash}
-use Rattle.archive_hash_probing.specs.ShapeCanonical.Strides.{sixteens}
-use Rattle.archive_hash_walking.specs.Tables.{Buckets, full_places, item_positions, IsTableAt, IsTableOf}
-use Rattle.archive_hash_walking.specs.Places.{LooksUp}
-use Rattle.archive_hash_walking.proofs.Read.{table_is_read}
-use Rattle.cabinet_archived.specs.Documents.Node.{node_shape, pair_shape, KnowsNode}
-use Rattle.cabinet_archived.specs.Documents.Audit.{hashed_faults}
-use Rattle.cabinet_archived.specs.Documents.Table.{Findable, found, hashed_at, table_of}
-use Rattle.cabinet_archived.proofs.Documents.FoundKeys.{hashed_is_findable}
+use Rattle.archive_shape_canonical.specs.FirstFit.{hash_tag}
+use Rattle.archive_shape_canonical.specs.Hash.{text_hash}
+use Rattle.archive_shape_canonical.specs.Strides.{sixteens}
+use Rattle.archive_hash_maps.specs.Tables.{Buckets, full_places, item_positions, IsTableAt, IsTableOf}
+use Rattle.archive_hash_maps.specs.Places.{LooksUp}
+use Rattle.archive_hash_maps.proofs.Read.{table_is_read}
+use Rattle.cabinet_documents.specs.Node.{node_shape, pair_shape, KnowsNode}
+use Rattle.cabinet_documents.specs.Audit.{hashed_faults}
+use Rattle.cabinet_documents.specs.Table.{Findable, found, hashed_at, table_of}
+use Rattle.cabinet_documents.proofs.FoundKeys.{hashed_is_findable}
 use Rattle.cabinet_archives.specs.Cost.{Searches}
 use Rattle.cabinet_archives.specs.Hashed.{table_shape, HasBucket}
 use Rattle.cabinet_archives.specs.Keyed.{KeyLeads, KeyLeadsNowhere, SaysKey, knows_pairs}

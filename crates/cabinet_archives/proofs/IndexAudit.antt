@@ -2,24 +2,24 @@
 use Rattle.std.proofs.Common.{◌≡◌, ℕ, zero, suc, ◌+◌, ◌^◌, ◌<◌, ◌≤◌, ◌==◌, Bool, Bor, true, false, List, [], ◌∷◌, ◌++◌, length, drop, map, slice_index, Option, MatchOption, Result, Ok, Err, refl, sym, ap, subst, ◌∙◌, arith}
 use Rattle.std.specs.Prelude.{⊤, slice_index_or}
 use Rattle.std.specs.List.{flat_map}
-use Rattle.archive_shape.specs.ShapeLayout.Bytes.{word_at}
-use Rattle.archive_shape.specs.ShapeLayout.Shape.{size_of}
-use Rattle.archive_shape.specs.ShapeLayout.Shape.Shape.{text}
-use Rattle.archive_shape.specs.ShapeLayout.Content.Part.{at}
-use Rattle.archive_shape.specs.ShapeLayout.Value.{Value}
-use Rattle.archive_forms_values.specs.FormsLaws.Sample.{number_shape}
-use Rattle.archive_forms_values.specs.FormsLaws.Text.{IsText}
+use Rattle.archive_shape_layout.specs.Bytes.{word_at}
+use Rattle.archive_shape_layout.specs.Shape.{size_of}
+use Rattle.archive_shape_layout.specs.Shape.Shape.{text}
+use Rattle.archive_shape_layout.specs.Content.Part.{at}
+use Rattle.archive_shape_layout.specs.Value.{Value}
+use Rattle.archive_forms_laws.specs.Sample.{number_shape}
+use Rattle.archive_forms_laws.specs.Text.{IsText}
 use Rattle.archive_forms_values.specs.Parts.{HasValue}
-use Rattle.archive_hash_probing.specs.ShapeCanonical.FirstFit.{hash_tag}
-use Rattle.archive_hash_probing.specs.ShapeCanonical.Hash.{text_hash}
-use Rattle.archive_hash_walking.specs.Tables.{full_places}
-use Rattle.cabinet_archived.specs.Documents.Node.{node_names, node_shape}
-use Rattle.cabinet_archived.specs.Documents.Audit as audit
-use Rattle.cabinet_archived.specs.Documents.Audit.{unless, tag_faults, search_faults, kept_faults}
-use Rattle.cabinet_archived.specs.Documents.Table.{Slot, Table, found, gives, kept_at, numbered, table_of}
-use Rattle.cabinet_archived.specs.Documents.Walk.{Stop, Walks}
-use Rattle.cabinet_archived.specs.Index.Lookups.{AnswersEntry}
-use Rattle.cabinet_archived.specs.Index.Maps.{IndexMap, IsMapAt, count_of}
+use Rattle.archive_shape_canonical.specs.FirstFit.{hash_tag}
+use Rattle.archive_shape_canonical.specs.Hash.{text_hash}
+use Rattle.archive_hash_maps.specs.Tables.{full_places}
+use Rattle.cabinet_documents.specs.Node.{node_names, node_shape}
+use Rattle.cabinet_documents.specs.Audit as audit
+use Rattle.cabinet_documents.specs.Audit.{unless, tag_faults, search_faults, kept_faults}
+use Rattle.cabinet_documents.specs.Table.{Slot, Table, found, gives, kept_at, numbered, table_of}
+use Rattle.cabinet_documents.specs.Walk.{Stop, Walks}
+use Rattle.archive_index.specs.Lookups.{AnswersEntry}
+use Rattle.archive_index.specs.Maps.{IndexMap, IsMapAt, count_of}
 use Rattle.cabinet_archives.specs.declared.opening.refusal.OpenRefusal.{OpenRefusal}
 use Rattle.cabinet_archives.specs.Kept.{OfKept, index_shape, kept_search_faults, kept_tag_faults}
 use Rattle.cabinet_archives.specs.Keyed.{SaysKey, knows_pairs}

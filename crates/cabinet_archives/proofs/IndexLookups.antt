@@ -4,23 +4,23 @@ use Rattle.std.specs.Prelude.{slice_index_or}
 use Rattle.std.specs.List.{Contains, range_with_len, slice_get}
 use Rattle.std.specs.Option.{option_map}
 use Rattle.std.proofs.lemmas.List.Elements.{All-head, All-tail}
-use Rattle.archive_shape.specs.ShapeLayout.Bytes.{word_at}
-use Rattle.archive_shape.specs.ShapeLayout.Shape.{size_of}
-use Rattle.archive_shape.specs.ShapeLayout.Shape.Shape.{text}
-use Rattle.archive_forms_values.specs.FormsLaws.Sample.{number_shape}
-use Rattle.archive_hash_probing.specs.ShapeCanonical.FirstFit.{hash_tag}
-use Rattle.archive_hash_probing.specs.ShapeCanonical.Hash.{text_hash}
-use Rattle.archive_hash_probing.specs.ShapeCanonical.Reach.{searched}
-use Rattle.archive_hash_probing.specs.ShapeCanonical.Strides.{strides}
-use Rattle.archive_hash_walking.specs.Tables.{Buckets, full_places, item_position, item_positions}
-use Rattle.cabinet_archived.specs.Documents.Audit.{kept_faults}
-use Rattle.cabinet_archived.specs.Documents.Node.{node_shape, pair_shape}
-use Rattle.cabinet_archived.specs.Documents.Order.{is_same}
-use Rattle.cabinet_archived.specs.Documents.Table.{Slot, Table, Findable, entry_of, found, numbered}
-use Rattle.cabinet_archived.specs.Index.Lookups.{AnswersEntry}
-use Rattle.cabinet_archived.specs.Index.Maps.{IndexMap, IsMapAt, adjacent, count_of, entry_position, entry_positions}
-use Rattle.cabinet_archived.proofs.Documents.FoundKeys.{from_map, kept_is_findable}
-use Rattle.cabinet_archived.proofs.Index.Walk.{walk_length}
+use Rattle.archive_shape_layout.specs.Bytes.{word_at}
+use Rattle.archive_shape_layout.specs.Shape.{size_of}
+use Rattle.archive_shape_layout.specs.Shape.Shape.{text}
+use Rattle.archive_forms_laws.specs.Sample.{number_shape}
+use Rattle.archive_shape_canonical.specs.FirstFit.{hash_tag}
+use Rattle.archive_shape_canonical.specs.Hash.{text_hash}
+use Rattle.archive_shape_canonical.specs.Reach.{searched}
+use Rattle.archive_shape_canonical.specs.Strides.{strides}
+use Rattle.archive_hash_maps.specs.Tables.{Buckets, full_places, item_position, item_positions}
+use Rattle.cabinet_documents.specs.Audit.{kept_faults}
+use Rattle.cabinet_documents.specs.Node.{node_shape, pair_shape}
+use Rattle.cabinet_documents.specs.Order.{is_same}
+use Rattle.cabinet_documents.specs.Table.{Slot, Table, Findable, entry_of, found, numbered}
+use Rattle.archive_index.specs.Lookups.{AnswersEntry}
+use Rattle.archive_index.specs.Maps.{IndexMap, IsMapAt, adjacent, count_of, entry_position, entry_positions}
+use Rattle.cabinet_documents.proofs.FoundKeys.{from_map, kept_is_findable}
+use Rattle.archive_index.proofs.Walk.{walk_length}
 use Rattle.cabinet_archives.specs.Cost.{strides_to}
 use Rattle.cabinet_archives.specs.Keyed.{SaysKey}
 use Rattle.cabinet_archives.proofs.Pairs.{got_read}

@@ -2,29 +2,29 @@
 use Rattle.std.proofs.Common.{◌≡◌, ◌∙◌, ℕ, zero, suc, ◌+◌, ◌*◌, ◌<◌, List, [], ◌∷◌, length, map, Some, refl, sym, ap, subst, arith}
 use Rattle.std.specs.Prelude.{⊤}
 use Rattle.std.proofs.lemmas.List.{length-map}
-use Rattle.archive_shape.specs.ShapeLayout.Bytes.{word_at}
-use Rattle.archive_shape.specs.ShapeLayout.Shape.{size_of}
-use Rattle.archive_shape.specs.ShapeLayout.Shape.Shape.{text}
-use Rattle.archive_shape.specs.ShapeLayout.Value.{Value, Values, count_values}
-use Rattle.archive_shape.specs.ShapeLayout.Value.Values.{no_values, more_values}
-use Rattle.archive_shape.specs.ShapeLayout.Content.{members}
-use Rattle.archive_shape.specs.ShapeLayout.Content.Part.{at}
+use Rattle.archive_shape_layout.specs.Bytes.{word_at}
+use Rattle.archive_shape_layout.specs.Shape.{size_of}
+use Rattle.archive_shape_layout.specs.Shape.Shape.{text}
+use Rattle.archive_shape_layout.specs.Value.{Value, Values, count_values}
+use Rattle.archive_shape_layout.specs.Value.Values.{no_values, more_values}
+use Rattle.archive_shape_layout.specs.Content.{members}
+use Rattle.archive_shape_layout.specs.Content.Part.{at}
 use Rattle.archive_shape.specs.Key.{HeldAt}
-use Rattle.archive_forms_values.specs.FormsLaws.Sample.{number_shape}
-use Rattle.archive_forms_values.specs.ShapeLayout.Path.{value_in}
+use Rattle.archive_forms_laws.specs.Sample.{number_shape}
+use Rattle.archive_shape_layout.specs.Path.{value_in}
 use Rattle.archive_forms_values.specs.Parts.{AreElements}
-use Rattle.archive_btree_walking.specs.Maps.{AreEntriesAt}
-use Rattle.archive_hash_walking.specs.Tables.{IsTableAt, AreItemsAt}
-use Rattle.archive_hash_walking.specs.Tables.IsTableAt.{has_none, has_buckets}
-use Rattle.cabinet_archived.specs.Documents.Audit.{kept_faults}
-use Rattle.cabinet_archived.specs.Documents.Node.{node_names, node_shape, pair_shape, KnowsNode}
-use Rattle.cabinet_archived.specs.Documents.Table.{kept_at, table_of}
-use Rattle.cabinet_archived.specs.Documents.Walk.{Stop, Walks}
-use Rattle.cabinet_archived.specs.Index.Maps.{IndexMap, IsMapAt, IsMapOf, adjacent, count_of, entry_positions}
-use Rattle.cabinet_archived.proofs.Documents.IndexWalks.{pair_places, index_walked, empty_index_walked}
-use Rattle.cabinet_archived.proofs.Documents.TableSound.{no_table}
-use Rattle.cabinet_archived.proofs.Documents.TreeWalks.{ItemsWalk, text_quiet}
-use Rattle.cabinet_archived.proofs.Index.Read.{map_is_read}
+use Rattle.archive_btree_maps.specs.Maps.{AreEntriesAt}
+use Rattle.archive_hash_maps.specs.Tables.{IsTableAt, AreItemsAt}
+use Rattle.archive_hash_maps.specs.Tables.IsTableAt.{has_none, has_buckets}
+use Rattle.cabinet_documents.specs.Audit.{kept_faults}
+use Rattle.cabinet_documents.specs.Node.{node_names, node_shape, pair_shape, KnowsNode}
+use Rattle.cabinet_documents.specs.Table.{kept_at, table_of}
+use Rattle.cabinet_documents.specs.Walk.{Stop, Walks}
+use Rattle.archive_index.specs.Maps.{IndexMap, IsMapAt, IsMapOf, adjacent, count_of, entry_positions}
+use Rattle.cabinet_documents.proofs.IndexWalks.{pair_places, index_walked, empty_index_walked}
+use Rattle.cabinet_documents.proofs.TableSound.{no_table}
+use Rattle.cabinet_documents.proofs.TreeWalks.{ItemsWalk, text_quiet}
+use Rattle.archive_index.proofs.Read.{map_is_read}
 use Rattle.cabinet_archives.specs.Kept.{index_shape}
 use Rattle.cabinet_archives.specs.Keyed.{knows_pairs}
 use Rattle.cabinet_archives.specs.Sound.{HasSoundWalk}

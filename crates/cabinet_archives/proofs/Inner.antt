@@ -1,22 +1,22 @@
 -- What is held in a node that is held: its payload, and the nodes in an option and in a list.
 use Rattle.std.proofs.Common.{◌≡◌, ℕ, ◌+◌, ◌*◌, ◌<◌, ◌≤◌, ◌==◌, Bool, true, false, List, slice_index, Some, refl, sym, ap, subst, ◌∙◌, arith}
 use Rattle.std.specs.Prelude.{MatchBool}
-use Rattle.archive_shape.specs.ShapeLayout.Bytes.{window, word_at, align_up}
-use Rattle.archive_shape.specs.ShapeLayout.Shape.{Shape, align_of, size_of}
-use Rattle.archive_shape.specs.ShapeLayout.Shape.Shape.{option, vector}
-use Rattle.archive_shape.specs.ShapeLayout.Value.{Value, Values}
-use Rattle.archive_shape.specs.ShapeLayout.Value.Value.{group, chosen}
-use Rattle.archive_shape.specs.ShapeLayout.Value.Values.{no_values}
-use Rattle.archive_shape.specs.ShapeLayout.Content.{Names, shape_tagged}
+use Rattle.archive_shape_layout.specs.Bytes.{window, word_at, align_up}
+use Rattle.archive_shape_layout.specs.Shape.{Shape, align_of, size_of}
+use Rattle.archive_shape_layout.specs.Shape.Shape.{option, vector}
+use Rattle.archive_shape_layout.specs.Value.{Value, Values}
+use Rattle.archive_shape_layout.specs.Value.Value.{group, chosen}
+use Rattle.archive_shape_layout.specs.Value.Values.{no_values}
+use Rattle.archive_shape_layout.specs.Content.{Names, shape_tagged}
 use Rattle.archive_shape.specs.Key.{HeldAt}
-use Rattle.archive_forms_values.specs.ShapeLayout.Path.{value_in}
+use Rattle.archive_shape_layout.specs.Path.{value_in}
 use Rattle.archive_forms_values.specs.Parts.{IsNoneAt, IsSomeAt, PointsTo}
-use Rattle.archive_forms_values.proofs.FormsLaws.Levels.{option_box_sized}
-use Rattle.archive_forms_values.proofs.ShapeLayout.Paths.{below_count}
+use Rattle.archive_forms_laws.proofs.Levels.{option_box_sized}
+use Rattle.archive_shape_layout.proofs.Paths.{below_count}
 use Rattle.archive_forms_values.proofs.Payloads.{option_by_tag}
 use Rattle.archive_forms_values.proofs.Pointed.{box_there, vec_there}
-use Rattle.cabinet_archived.specs.Documents.Node.{node_shape, payloads, KnowsNode}
-use Rattle.cabinet_archived.specs.Documents.Denotes.{tagged_value}
+use Rattle.cabinet_documents.specs.Node.{node_shape, payloads, KnowsNode}
+use Rattle.cabinet_documents.specs.Denotes.{tagged_value}
 use Rattle.cabinet_archived.proofs.Nodes.{tagged_at}
 use Rattle.cabinet_archives.specs.Keyed.{knows_pairs}
 use Rattle.cabinet_archives.specs.Hashed.{table_shape}

@@ -1,19 +1,19 @@
 -- Setting a leaf leaves an archive an archive, and an image an image.
 use Rattle.std.proofs.Common.{◌≡◌, ◌≢◌, ℕ, Bool, true, false, if◌then◌else◌, List, length, Option, Some, None, refl, sym, subst}
-use Rattle.archive_shape.specs.ShapeLayout.Value.{Value}
-use Rattle.archive_shape.proofs.ShapeLayout.Unique.{one_value}
-use Rattle.cabinet_text_nodes.specs.TextGrammar.Tree.{Tree, Leaf, leaf, shared, nothing, just, list, map, whole, IsLeaf}
-use Rattle.cabinet_text_nodes.specs.TextGrammar.Path.{Step, node_at, enters}
-use Rattle.cabinet_text_nodes.specs.TextGrammar.Line.{set}
-use Rattle.cabinet_text_nodes.specs.TextGrammar.Answering.{Answer, head, keys_are, wrong, missing, done, refused, bad, answer, change, fits, if_there, outcome_there}
-use Rattle.cabinet_text_nodes.proofs.TextGrammar.Changes.{only_done_changes}
-use Rattle.cabinet_archived.specs.Documents.Accepted.{Accepted}
-use Rattle.cabinet_archived.specs.Documents.Done.{IsDone}
-use Rattle.cabinet_archived.specs.Documents.Image.{Image}
-use Rattle.cabinet_archived.specs.Documents.Node.{own_bytes, node_names}
-use Rattle.cabinet_archived.specs.Documents.OwnBytes.{OwnBytes}
-use Rattle.cabinet_archived.proofs.Documents.EditKept.{edit_keeps_accepted_law}
-use Rattle.cabinet_archived.proofs.Documents.ImageKept.{edit_keeps_image_law}
+use Rattle.archive_shape_layout.specs.Value.{Value}
+use Rattle.archive_shape_layout.proofs.Unique.{one_value}
+use Rattle.cabinet_text_grammar.specs.Tree.{Tree, Leaf, leaf, shared, nothing, just, list, map, whole, IsLeaf}
+use Rattle.cabinet_text_grammar.specs.Path.{Step, node_at, enters}
+use Rattle.cabinet_text_grammar.specs.Line.{set}
+use Rattle.cabinet_text_grammar.specs.Answering.{Answer, head, keys_are, wrong, missing, done, refused, bad, answer, change, fits, if_there, outcome_there}
+use Rattle.cabinet_text_grammar.proofs.Changes.{only_done_changes}
+use Rattle.cabinet_documents.specs.Accepted.{Accepted}
+use Rattle.cabinet_documents.specs.Done.{IsDone}
+use Rattle.cabinet_documents.specs.Image.{Image}
+use Rattle.cabinet_documents.specs.Node.{own_bytes, node_names}
+use Rattle.cabinet_documents.specs.OwnBytes.{OwnBytes}
+use Rattle.cabinet_documents.proofs.EditKept.{edit_keeps_accepted_law}
+use Rattle.cabinet_documents.proofs.ImageKept.{edit_keeps_image_law}
 use Rattle.cabinet_archives.specs.Setting.{IsWritten, EditLeaves}
 
 -- ---- where an edit is done

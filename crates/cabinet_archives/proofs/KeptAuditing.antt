@@ -1,18 +1,18 @@
 -- What an audit finds of a kept map, from what it finds of its table and of the nodes in it.
 use Rattle.std.proofs.Common.{◌≡◌, ℕ, ◌+◌, ◌≤◌, Bor, List, map, Ok, Err}
 use Rattle.std.specs.Prelude.{⊤, All}
-use Rattle.archive_shape.specs.ShapeLayout.Shape.Shape.{text}
-use Rattle.archive_shape.specs.ShapeLayout.Value.{Value}
-use Rattle.archive_shape.specs.ShapeLayout.Content.{members}
-use Rattle.archive_shape.specs.ShapeLayout.Content.Part.{at}
+use Rattle.archive_shape_layout.specs.Shape.Shape.{text}
+use Rattle.archive_shape_layout.specs.Value.{Value}
+use Rattle.archive_shape_layout.specs.Content.{members}
+use Rattle.archive_shape_layout.specs.Content.Part.{at}
 use Rattle.archive_shape.specs.declared.references.refs.Ref.{Ref}
 use Rattle.archive_forms_values.specs.Parts.{HasValue}
-use Rattle.archive_hash_walking.specs.Maps.{value_at}
-use Rattle.cabinet_archived.specs.Documents.Audit.{Unsound, kept_faults}
-use Rattle.cabinet_archived.specs.Documents.Node.{node_names, node_shape, KnowsNode}
-use Rattle.cabinet_archived.specs.Documents.Table.{kept_at, table_of}
-use Rattle.cabinet_archived.specs.Documents.Walk.{Stop, Walks}
-use Rattle.cabinet_archived.specs.Index.Maps.{IndexMap, IsMapAt, IsMapOf, entry_positions}
+use Rattle.archive_hash_maps.specs.Maps.{value_at}
+use Rattle.cabinet_documents.specs.Audit.{Unsound, kept_faults}
+use Rattle.cabinet_documents.specs.Node.{node_names, node_shape, KnowsNode}
+use Rattle.cabinet_documents.specs.Table.{kept_at, table_of}
+use Rattle.cabinet_documents.specs.Walk.{Stop, Walks}
+use Rattle.archive_index.specs.Maps.{IndexMap, IsMapAt, IsMapOf, entry_positions}
 use Rattle.cabinet_archived.specs.declared.node.ArchivedNode.{ArchivedNode}
 use Rattle.cabinet_archives.specs.declared.opening.refusal.OpenRefusal.{OpenRefusal}
 use Rattle.cabinet_archives.specs.Kept.{index_shape}

@@ -1,14 +1,14 @@
 -- The entries of a kept map, by what reads of them return.
 use Rattle.std.proofs.Common.{◌≡◌, ℕ, ◌<◌, ◌≤◌, Bor, List, Option, Some, None, MatchOption, refl, sym, ap, subst, arith}
 use Rattle.std.specs.Prelude.{⊤, IsSome}
-use Rattle.archive_shape.specs.ShapeLayout.Shape.Shape.{text}
+use Rattle.archive_shape_layout.specs.Shape.Shape.{text}
 use Rattle.archive_shape.specs.declared.references.refs.Ref.{Ref}
-use Rattle.archive_forms_values.specs.FormsLaws.Text.{HasText}
+use Rattle.archive_forms_laws.specs.Text.{HasText}
 use Rattle.archive_forms_values.specs.Parts.{HasValue}
-use Rattle.cabinet_archived.specs.Documents.Node.{node_shape, KnowsNode}
-use Rattle.cabinet_archived.specs.Index.Lookups.{pair_of}
-use Rattle.cabinet_archived.specs.Index.Maps.{IndexMap, count_of}
-use Rattle.cabinet_archived.proofs.Index.Standing.{entry_key}
+use Rattle.cabinet_documents.specs.Node.{node_shape, KnowsNode}
+use Rattle.archive_index.specs.Lookups.{pair_of}
+use Rattle.archive_index.specs.Maps.{IndexMap, count_of}
+use Rattle.archive_index.proofs.Standing.{entry_key}
 use Rattle.cabinet_archives.specs.Kept.{OfKept, index_shape}
 use Rattle.cabinet_archives.specs.Keyed.{knows_pairs}
 use Rattle.cabinet_archives.proofs.IndexLookups.{position}

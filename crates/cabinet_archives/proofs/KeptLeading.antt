@@ -2,21 +2,21 @@
 use Rattle.std.proofs.Common.{◌≡◌, ℕ, ◌^◌, ◌<◌, List, Option, Some, None, sym, ap, subst, ◌∙◌, arith}
 use Rattle.std.specs.Option.{option_map}
 use Rattle.std.proofs.Math.Logic.{∥∥₁_map}
-use Rattle.archive_shape.specs.ShapeLayout.Shape.{size_of}
-use Rattle.archive_shape.specs.ShapeLayout.Shape.Shape.{text}
-use Rattle.archive_shape.specs.ShapeLayout.Shape.Shapes.{no_shapes}
-use Rattle.archive_shape.specs.ShapeLayout.Value.{Value}
-use Rattle.archive_shape.specs.ShapeLayout.Content.Part.{at}
+use Rattle.archive_shape_layout.specs.Shape.{size_of}
+use Rattle.archive_shape_layout.specs.Shape.Shape.{text}
+use Rattle.archive_shape_layout.specs.Shape.Shapes.{no_shapes}
+use Rattle.archive_shape_layout.specs.Value.{Value}
+use Rattle.archive_shape_layout.specs.Content.Part.{at}
 use Rattle.archive_shape.specs.Key.{HeldAt}
 use Rattle.archive_forms_values.specs.Fields.{field_position}
 use Rattle.archive_forms_values.specs.Parts.{HasValue}
-use Rattle.archive_hash_probing.specs.ShapeCanonical.FirstFit.{hash_tag}
-use Rattle.archive_hash_probing.specs.ShapeCanonical.Hash.{text_hash}
-use Rattle.cabinet_archived.specs.Documents.Audit.{kept_faults}
-use Rattle.cabinet_archived.specs.Documents.Node.{node_shape, pair_shape}
-use Rattle.cabinet_archived.specs.Documents.Table.{Findable, found, kept_at, table_of}
-use Rattle.cabinet_archived.specs.Index.Lookups.{AnswersEntry}
-use Rattle.cabinet_archived.specs.Index.Maps.{IndexMap, IsMapAt, count_of, entry_positions}
+use Rattle.archive_shape_canonical.specs.FirstFit.{hash_tag}
+use Rattle.archive_shape_canonical.specs.Hash.{text_hash}
+use Rattle.cabinet_documents.specs.Audit.{kept_faults}
+use Rattle.cabinet_documents.specs.Node.{node_shape, pair_shape}
+use Rattle.cabinet_documents.specs.Table.{Findable, found, kept_at, table_of}
+use Rattle.archive_index.specs.Lookups.{AnswersEntry}
+use Rattle.archive_index.specs.Maps.{IndexMap, IsMapAt, count_of, entry_positions}
 use Rattle.cabinet_archives.specs.Cost.{Searches}
 use Rattle.cabinet_archives.specs.Kept.{HasNumbered, index_shape}
 use Rattle.cabinet_archives.specs.Keyed.{KeyLeads, KeyLeadsNowhere, SaysKey, knows_pairs}

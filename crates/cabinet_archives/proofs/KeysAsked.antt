@@ -1,15 +1,15 @@
 -- The keys that a question about a node asks for, by the node's value.
 use Rattle.std.proofs.Common.{◌≡◌, ℕ, Bor, List, ◌∷◌, refl, sym, ap, ◌∙◌, arith}
 use Rattle.std.specs.List.{filter}
-use Rattle.archive_shape.specs.ShapeLayout.Value.{Value, Values}
-use Rattle.archive_shape.specs.ShapeLayout.Shape.{Shape}
-use Rattle.archive_shape.specs.ShapeLayout.Content.{Names, members}
-use Rattle.cabinet_text_nodes.specs.TextGrammar.Tree.{Tree, Pairs}
-use Rattle.cabinet_text_nodes.specs.TextGrammar.Answering.{keys_in, keys_are, keys_of, keys_within, lies_within, wrong}
-use Rattle.cabinet_archived.specs.Documents.Denotes.{Denotes, DenotePairs, tagged_value}
-use Rattle.cabinet_archived.specs.Documents.Denotes.Denotes.{denotes_truth, denotes_number, denotes_text, denotes_shared, denotes_nothing, denotes_some, denotes_list, denotes_ordered, denotes_hashed, denotes_kept, denotes_whole}
-use Rattle.cabinet_archived.specs.Documents.Denotes.DenotePairs.{denote_no_pairs, denote_pair}
-use Rattle.cabinet_archived.specs.Documents.Table.{item_keys}
+use Rattle.archive_shape_layout.specs.Value.{Value, Values}
+use Rattle.archive_shape_layout.specs.Shape.{Shape}
+use Rattle.archive_shape_layout.specs.Content.{Names, members}
+use Rattle.cabinet_text_grammar.specs.Tree.{Tree, Pairs}
+use Rattle.cabinet_text_grammar.specs.Answering.{keys_in, keys_are, keys_of, keys_within, lies_within, wrong}
+use Rattle.cabinet_documents.specs.Denotes.{Denotes, DenotePairs, tagged_value}
+use Rattle.cabinet_documents.specs.Denotes.Denotes.{denotes_truth, denotes_number, denotes_text, denotes_shared, denotes_nothing, denotes_some, denotes_list, denotes_ordered, denotes_hashed, denotes_kept, denotes_whole}
+use Rattle.cabinet_documents.specs.Denotes.DenotePairs.{denote_no_pairs, denote_pair}
+use Rattle.cabinet_documents.specs.Table.{item_keys}
 use Rattle.cabinet_archived.specs.Kind.{IsTagged, IsKindAt}
 use Rattle.cabinet_archived.specs.declared.kind.ArchivedKind.{ArchivedKind}
 use Rattle.cabinet_archived.specs.declared.kind.ArchivedKind.TheVariants as kind

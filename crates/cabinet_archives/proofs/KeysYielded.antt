@@ -5,13 +5,13 @@ use Rattle.std.specs.Iterator.{AlwaysYields, YieldsFirst}
 use Rattle.std.specs.List.{AllZip}
 use Rattle.std.proofs.lemmas.List.{length-map}
 use Rattle.std.proofs.lemmas.List.Elements.{All-nil, All-cons, All-head, All-tail}
-use Rattle.archive_shape.specs.ShapeLayout.Bytes.{window}
+use Rattle.archive_shape_layout.specs.Bytes.{window}
 use Rattle.archive_shape.specs.declared.references.refs.Ref.{Ref}
 use Rattle.archive_forms_values.specs.declared.text.string.ArchivedString.{ArchivedString}
-use Rattle.archive_shape.specs.ShapeLayout.Shape.Shape.{text}
-use Rattle.archive_forms_values.specs.FormsLaws.Text.{IsText}
+use Rattle.archive_shape_layout.specs.Shape.Shape.{text}
+use Rattle.archive_forms_laws.specs.Text.{IsText}
 use Rattle.archive_forms_values.specs.Parts.{HasValue}
-use Rattle.cabinet_text_nodes.specs.TextGrammar.Answering.{spelled_keys}
+use Rattle.cabinet_text_grammar.specs.Answering.{spelled_keys}
 use Rattle.cabinet_archives.specs.Keys.{YieldsTexts}
 use Rattle.cabinet_archives.proofs.Ascending.{text_of, HasTextIn}
 use Rattle.cabinet_archives.proofs.Payloads.{text_has}

@@ -15,33 +15,33 @@ use Rattle.std.proofs.Math.Nat.{min-eq_left}
 use Rattle.std.proofs.Math.Logic.{∥∥₁_elim, ∥∥₁_map}
 use Rattle.std.proofs.lemmas.List.Elements.{All-nil, All-cons}
 use Rattle.std.proofs.lemmas.List.Kept.{AllPairs-cons}
-use Rattle.archive_shape.specs.ShapeLayout.Value.{Value, Values}
-use Rattle.archive_shape.specs.ShapeLayout.Value.Value.{string, group}
-use Rattle.archive_shape.specs.ShapeLayout.Value.Values.{no_values, more_values}
-use Rattle.archive_shape.specs.ShapeLayout.Shape.Shape.{text}
-use Rattle.archive_shape.specs.ShapeLayout.Content.{members}
-use Rattle.archive_shape.specs.ShapeLayout.Content.Part.{at}
-use Rattle.archive_forms_values.specs.ShapeLayout.Path.{value_in}
+use Rattle.archive_shape_layout.specs.Value.{Value, Values}
+use Rattle.archive_shape_layout.specs.Value.Value.{string, group}
+use Rattle.archive_shape_layout.specs.Value.Values.{no_values, more_values}
+use Rattle.archive_shape_layout.specs.Shape.Shape.{text}
+use Rattle.archive_shape_layout.specs.Content.{members}
+use Rattle.archive_shape_layout.specs.Content.Part.{at}
+use Rattle.archive_shape_layout.specs.Path.{value_in}
 use Rattle.archive_shape.specs.declared.references.refs.Ref.{Ref}
 use Rattle.archive_shape.specs.Key.{HeldAt}
-use Rattle.archive_forms_values.specs.FormsLaws.Text.{IsText}
-use Rattle.archive_btree_walking.specs.BtreeLayout.Tree.{Tree, items}
-use Rattle.archive_btree_walking.specs.BtreeLayout.Reading.{Place}
-use Rattle.archive_btree_walking.specs.BtreeLayout.Descent.{descend, met, Ascends}
-use Rattle.cabinet_archived.proofs.Documents.BtreeLayout.Descending.{descent_finds, asc_of, met_bound}
-use Rattle.archive_btree_walking.specs.Maps.{IsMapAt, IsMapOf, IsEntryAt, AreEntriesAt}
-use Rattle.archive_btree_walking.specs.Maps.IsMapAt.{has_none, has_root}
-use Rattle.archive_btree_walking.specs.Lookups.{QueryOrders}
-use Rattle.archive_btree_walking.specs.Refs.{value_at}
-use Rattle.archive_btree_walking.proofs.Roots.{tree_of_value}
-use Rattle.cabinet_archived.specs.Documents.Denotes.{pair_value}
-use Rattle.cabinet_archived.specs.Documents.Order.{ascend, is_below}
-use Rattle.cabinet_archived.specs.Documents.Table.{key_of, item_keys}
-use Rattle.cabinet_archived.specs.Documents.Walk.{Stop}
-use Rattle.cabinet_archived.specs.Documents.Audit.{Unsound, too_deep, keys_not_ascending, unless, faults}
-use Rattle.cabinet_archived.proofs.Documents.TreeWalks.{ItemsWalk, no_items, more_items}
+use Rattle.archive_forms_laws.specs.Text.{IsText}
+use Rattle.archive_btree_layout.specs.Tree.{Tree, items}
+use Rattle.archive_btree_layout.specs.Reading.{Place}
+use Rattle.archive_btree_layout.specs.Descent.{descend, met, Ascends}
+use Rattle.archive_btree_layout.proofs.Descending.{descent_finds, asc_of, met_bound}
+use Rattle.archive_btree_maps.specs.Maps.{IsMapAt, IsMapOf, IsEntryAt, AreEntriesAt}
+use Rattle.archive_btree_maps.specs.Maps.IsMapAt.{has_none, has_root}
+use Rattle.archive_btree_maps.specs.Lookups.{QueryOrders}
+use Rattle.archive_btree_maps.specs.Refs.{value_at}
+use Rattle.archive_btree_maps.proofs.Roots.{tree_of_value}
+use Rattle.cabinet_documents.specs.Denotes.{pair_value}
+use Rattle.cabinet_documents.specs.Order.{ascend, is_below}
+use Rattle.cabinet_documents.specs.Table.{key_of, item_keys}
+use Rattle.cabinet_documents.specs.Walk.{Stop}
+use Rattle.cabinet_documents.specs.Audit.{Unsound, too_deep, keys_not_ascending, unless, faults}
+use Rattle.cabinet_documents.proofs.TreeWalks.{ItemsWalk, no_items, more_items}
 use Rattle.archive_forms_values.specs.Parts.{HasValue}
-use Rattle.cabinet_archived.specs.Documents.Node.{node_shape, node_names, KnowsNode}
+use Rattle.cabinet_documents.specs.Node.{node_shape, node_names, KnowsNode}
 use Rattle.cabinet_archived.specs.declared.node.ArchivedNode.{ArchivedNode}
 use Rattle.cabinet_archives.specs.Cost.{Compares}
 use Rattle.cabinet_archives.specs.Ordered.{map_shape, HasEntry}

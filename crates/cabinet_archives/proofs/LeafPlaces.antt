@@ -1,39 +1,39 @@
 -- The leaf at a path: the position of its node, by the steps of the path, and that of the bytes that encode it.
 use Rattle.std.proofs.Common.{◌≡◌, ℕ, ℤ, ◌+◌, Bool, true, false, List, [], ◌∷◌, ◌++◌, length, Some, w64, refl, sym, ap, subst, ◌∙◌, arith, ◌⊎◌, inl, inr}
-use Rattle.archive_shape.specs.ShapeLayout.Bytes.{window, align_up}
-use Rattle.archive_shape.specs.ShapeLayout.Shape.Shape.{truth, number, text, option, box, vector}
-use Rattle.archive_shape.specs.ShapeLayout.Shape.Pointee.{sized, str}
-use Rattle.archive_shape.specs.ShapeLayout.Value.{Value, Values}
-use Rattle.archive_forms_values.specs.ShapeLayout.Path.{value_in}
-use Rattle.archive_shape.specs.ShapeLayout.Value.Value.{boolean, integer, string, group}
-use Rattle.archive_shape.specs.ShapeLayout.Content.{Part, content_of}
-use Rattle.archive_shape.specs.ShapeLayout.Content.Part.{at, behind}
-use Rattle.archive_shape.specs.ShapeLayout.Content.Label.{written}
-use Rattle.archive_shape.specs.ShapeLayout.Content.Content.{plain}
-use Rattle.archive_shape.specs.ShapeLayout.Holds.{Region, Visit, OpenShared, Holds}
+use Rattle.archive_shape_layout.specs.Bytes.{window, align_up}
+use Rattle.archive_shape_layout.specs.Shape.Shape.{truth, number, text, option, box, vector}
+use Rattle.archive_shape_layout.specs.Shape.Pointee.{sized, str}
+use Rattle.archive_shape_layout.specs.Value.{Value, Values}
+use Rattle.archive_shape_layout.specs.Path.{value_in}
+use Rattle.archive_shape_layout.specs.Value.Value.{boolean, integer, string, group}
+use Rattle.archive_shape_layout.specs.Content.{Part, content_of}
+use Rattle.archive_shape_layout.specs.Content.Part.{at, behind}
+use Rattle.archive_shape_layout.specs.Content.Label.{written}
+use Rattle.archive_shape_layout.specs.Content.Content.{plain}
+use Rattle.archive_shape_layout.specs.Holds.{Region, Visit, OpenShared, Holds}
 use Rattle.archive_shape.specs.Key.{HeldAt}
-use Rattle.archive_shape.specs.ShapeLayout.Path.{Stands}
-use Rattle.archive_shape.specs.ShapeLayout.Path.Stands.{stands_here}
-use Rattle.archive_forms_values.specs.FormsLaws.Text.{LiesAt}
+use Rattle.archive_shape_layout.specs.Path.{Stands}
+use Rattle.archive_shape_layout.specs.Path.Stands.{stands_here}
+use Rattle.archive_forms_laws.specs.Text.{LiesAt}
 use Rattle.archive_forms_values.specs.Parts.{PointsTo}
-use Rattle.cabinet_text_nodes.specs.TextGrammar.Keys.{ordered, hashed, kept}
-use Rattle.cabinet_text_nodes.specs.TextGrammar.Tree as document
-use Rattle.cabinet_text_nodes.specs.TextGrammar.Tree.{Leaf, Tree, leaf, IsLegal}
-use Rattle.cabinet_text_nodes.specs.TextGrammar.Path.{Step, key, place, inside, node_at, enters}
-use Rattle.cabinet_archived.specs.Documents.Node.{node_names, node_shape, KnowsNode}
-use Rattle.cabinet_archived.specs.Documents.Denotes.{Denotes, pair_value, tagged_value}
-use Rattle.cabinet_archived.specs.Documents.Order.{arranged}
-use Rattle.cabinet_archived.specs.Documents.OwnBytes.{LeadsTo, leads_here, leads_inside, leads_place, leads_key}
-use Rattle.cabinet_archived.specs.Documents.Laws.{payload_of}
-use Rattle.cabinet_archived.proofs.Documents.Nodes.{NodeValue}
-use Rattle.cabinet_archived.proofs.Documents.Known.{leaf_tag, LeafValue, Known, known_leaf, known_shared, known_none, known_some, known_list, known_ordered, known_hashed, known_kept, known, known_element, known_pair, known_whole}
-use Rattle.cabinet_archived.proofs.Documents.ByKey.{distinct, distinct_in_order, node_in_order, enters_in_order}
-use Rattle.cabinet_archived.proofs.Documents.IndexSteps.{index_node}
-use Rattle.cabinet_archived.proofs.Documents.TableSteps.{table_node}
-use Rattle.cabinet_archived.proofs.Documents.BtreeSpelling.PairsStand.{tree_pair_stands}
-use Rattle.cabinet_archived.proofs.Documents.Places.{node_here}
-use Rattle.cabinet_archived.proofs.Documents.Leading.{ToLeaf}
-use Rattle.cabinet_archived.proofs.Documents.Avoiding.{avoids}
+use Rattle.cabinet_text_grammar.specs.Keys.{ordered, hashed, kept}
+use Rattle.cabinet_text_grammar.specs.Tree as document
+use Rattle.cabinet_text_grammar.specs.Tree.{Leaf, Tree, leaf, IsLegal}
+use Rattle.cabinet_text_grammar.specs.Path.{Step, key, place, inside, node_at, enters}
+use Rattle.cabinet_documents.specs.Node.{node_names, node_shape, KnowsNode}
+use Rattle.cabinet_documents.specs.Denotes.{Denotes, pair_value, tagged_value}
+use Rattle.cabinet_documents.specs.Order.{arranged}
+use Rattle.cabinet_documents.specs.OwnBytes.{LeadsTo, leads_here, leads_inside, leads_place, leads_key}
+use Rattle.cabinet_documents.specs.Laws.{payload_of}
+use Rattle.cabinet_documents.proofs.Nodes.{NodeValue}
+use Rattle.cabinet_documents.proofs.Known.{leaf_tag, LeafValue, Known, known_leaf, known_shared, known_none, known_some, known_list, known_ordered, known_hashed, known_kept, known, known_element, known_pair, known_whole}
+use Rattle.cabinet_documents.proofs.ByKey.{distinct, distinct_in_order, node_in_order, enters_in_order}
+use Rattle.cabinet_documents.proofs.IndexSteps.{index_node}
+use Rattle.cabinet_documents.proofs.TableSteps.{table_node}
+use Rattle.archive_btree_spelling.proofs.PairsStand.{tree_pair_stands}
+use Rattle.cabinet_documents.proofs.Places.{node_here}
+use Rattle.cabinet_documents.proofs.Leading.{ToLeaf}
+use Rattle.cabinet_documents.proofs.Avoiding.{avoids}
 use Rattle.cabinet_archives.specs.Hashed.{table_shape}
 use Rattle.cabinet_archives.specs.Kept.{index_shape}
 use Rattle.cabinet_archives.specs.Ordered.{map_shape}

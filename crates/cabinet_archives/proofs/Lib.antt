@@ -4,7 +4,6 @@ mod Audited
 mod Auditing
 mod Buckets
 mod Costs
-pub mod Documents
 mod Entering
 mod Entries
 mod Exact

@@ -2,24 +2,24 @@
 use Rattle.std.specs.declared.alloc.AllocError.{AllocError}
 use Rattle.std.proofs.Common.{Bor, Result, Ok, Err, IfOk, ◌≡◌, ℕ, zero, suc, ◌+◌, ◌*◌, ◌<◌, ◌≤◌, List, [], ◌∷◌, ◌++◌, length, Some, false, refl, sym, ap, subst, ◌∙◌, arith}
 use Rattle.std.specs.Prelude.{⊤}
-use Rattle.archive_shape.specs.ShapeLayout.Shape.{Shape, size_of}
-use Rattle.archive_shape.specs.ShapeLayout.Shape.Shape.{option, vector}
-use Rattle.archive_shape.specs.ShapeLayout.Value.{Value, Values, count_values}
-use Rattle.archive_shape.specs.ShapeLayout.Content.{Names}
+use Rattle.archive_shape_layout.specs.Shape.{Shape, size_of}
+use Rattle.archive_shape_layout.specs.Shape.Shape.{option, vector}
+use Rattle.archive_shape_layout.specs.Value.{Value, Values, count_values}
+use Rattle.archive_shape_layout.specs.Content.{Names}
 use Rattle.archive_shape.specs.Key.{HeldAt}
 use Rattle.archive_forms_values.specs.Parts.{HasValue, IsNoneAt, IsSomeAt, some_position, IsBoxAt, IsVecAt}
-use Rattle.archive_forms_values.specs.ShapeLayout.Path.{value_in}
+use Rattle.archive_shape_layout.specs.Path.{value_in}
 use Rattle.archive_forms_rc.specs.Pointers.{IsRcAt}
-use Rattle.cabinet_text_nodes.specs.TextGrammar.Wholes.{with_wholes}
-use Rattle.cabinet_text_nodes.specs.TextGrammar.Tree.{Leaf, Tree, Trees, leaf, shared, more_trees, nothing, just, list, whole, IsLegal, AreLegal, depth as height, most_depth}
+use Rattle.cabinet_text_grammar.specs.Wholes.{with_wholes}
+use Rattle.cabinet_text_grammar.specs.Tree.{Leaf, Tree, Trees, leaf, shared, more_trees, nothing, just, list, whole, IsLegal, AreLegal, depth as height, most_depth}
 use Rattle.cabinet_text_nodes.specs.View.{node_tree, node_trees, trees_of}
 use Rattle.cabinet_text_nodes.specs.declared.node.Node.{Node}
-use Rattle.cabinet_archived.specs.Documents.Denotes.{Denotes, DenoteAll, tagged_value}
-use Rattle.cabinet_archived.specs.Documents.Denotes.Denotes.{denotes_truth, denotes_number, denotes_text, denotes_shared, denotes_nothing, denotes_some, denotes_list, denotes_ordered, denotes_hashed, denotes_kept, denotes_whole}
-use Rattle.cabinet_archived.specs.Documents.Denotes.DenoteAll.{denote_none, denote_more}
-use Rattle.cabinet_archived.specs.Documents.Node.{node_shape, whole_shape, KnowsNode}
+use Rattle.cabinet_documents.specs.Denotes.{Denotes, DenoteAll, tagged_value}
+use Rattle.cabinet_documents.specs.Denotes.Denotes.{denotes_truth, denotes_number, denotes_text, denotes_shared, denotes_nothing, denotes_some, denotes_list, denotes_ordered, denotes_hashed, denotes_kept, denotes_whole}
+use Rattle.cabinet_documents.specs.Denotes.DenoteAll.{denote_none, denote_more}
+use Rattle.cabinet_documents.specs.Node.{node_shape, whole_shape, KnowsNode}
 use Rattle.cabinet_archived.specs.Kind.{IsTagged}
-use Rattle.cabinet_archived.proofs.Documents.Changing.{of_some, of_list, of_whole}
+use Rattle.cabinet_documents.proofs.Changing.{of_some, of_list, of_whole}
 use Rattle.cabinet_archives.specs.Found.{OfDocument}
 use Rattle.cabinet_archives.specs.Loading.{HasTree, OfTree}
 use Rattle.cabinet_archives.proofs.Stepping.{nothing_is}

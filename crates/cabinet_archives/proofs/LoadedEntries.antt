@@ -8,29 +8,29 @@ use Rattle.std.specs.declared.cmp.Ordering.{Ordering}
 use Rattle.std.specs.declared.cmp.Ordering.TheVariants.{Less, Equal, Greater}
 use Rattle.std.proofs.lemmas.List.Elements.{All-nil, All-cons, All-head, All-tail}
 use Rattle.std.proofs.lemmas.Map.Lookups.{exact_bytes}
-use Rattle.archive_shape.specs.ShapeLayout.Shape.{Shape}
-use Rattle.archive_shape.specs.ShapeLayout.Shape.Shape.{text}
-use Rattle.archive_shape.specs.ShapeLayout.Value.{Value, Values}
-use Rattle.archive_shape.specs.ShapeLayout.Value.Value.{string}
-use Rattle.archive_shape.specs.ShapeLayout.Value.Values.{no_values, more_values}
-use Rattle.archive_shape.specs.ShapeLayout.Content.{members}
+use Rattle.archive_shape_layout.specs.Shape.{Shape}
+use Rattle.archive_shape_layout.specs.Shape.Shape.{text}
+use Rattle.archive_shape_layout.specs.Value.{Value, Values}
+use Rattle.archive_shape_layout.specs.Value.Value.{string}
+use Rattle.archive_shape_layout.specs.Value.Values.{no_values, more_values}
+use Rattle.archive_shape_layout.specs.Content.{members}
 use Rattle.archive_shape.specs.Key.{HeldAt}
 use Rattle.archive_shape.specs.declared.references.refs.Ref.{Ref}
 use Rattle.archive_forms_values.specs.declared.text.string.ArchivedString.{ArchivedString}
-use Rattle.archive_btree_walking.specs.BtreeLayout.Reading.{Place}
-use Rattle.archive_btree_walking.specs.Maps.{AreEntriesAt}
-use Rattle.archive_btree_walking.specs.Refs.{entry_at}
-use Rattle.cabinet_text_nodes.specs.TextGrammar.Keys.{MapKind, ordered, hashed, kept}
-use Rattle.cabinet_text_nodes.specs.TextGrammar.Tree as tree
-use Rattle.cabinet_text_nodes.specs.TextGrammar.Tree.{Tree, Pairs, no_pairs, more_pairs, IsLegal, pairs_depth, depth as height}
-use Rattle.cabinet_archived.specs.Documents.Denotes.{Denotes, DenotePairs, pair_value, tagged_value}
-use Rattle.cabinet_archived.specs.Documents.Denotes.DenotePairs.{denote_no_pairs, denote_pair}
-use Rattle.cabinet_archived.specs.Documents.Node.{node_shape, KnowsNode}
-use Rattle.cabinet_archived.specs.Documents.Order.{arranged}
+use Rattle.archive_btree_layout.specs.Reading.{Place}
+use Rattle.archive_btree_maps.specs.Maps.{AreEntriesAt}
+use Rattle.archive_btree_maps.specs.Refs.{entry_at}
+use Rattle.cabinet_text_grammar.specs.Keys.{MapKind, ordered, hashed, kept}
+use Rattle.cabinet_text_grammar.specs.Tree as tree
+use Rattle.cabinet_text_grammar.specs.Tree.{Tree, Pairs, no_pairs, more_pairs, IsLegal, pairs_depth, depth as height}
+use Rattle.cabinet_documents.specs.Denotes.{Denotes, DenotePairs, pair_value, tagged_value}
+use Rattle.cabinet_documents.specs.Denotes.DenotePairs.{denote_no_pairs, denote_pair}
+use Rattle.cabinet_documents.specs.Node.{node_shape, KnowsNode}
+use Rattle.cabinet_documents.specs.Order.{arranged}
 use Rattle.cabinet_archived.specs.declared.node.ArchivedNode.{ArchivedNode}
-use Rattle.cabinet_archived.proofs.Documents.Arranged.{arranged_depth}
-use Rattle.cabinet_archived.proofs.Documents.ByKey.{AreDistinct, AreKeysDistinct, in_order, pair_keys, keys_distinct, distinct, distinct_in_order}
-use Rattle.cabinet_archived.proofs.Documents.Keyed.{keys_denoted}
+use Rattle.cabinet_documents.proofs.Arranged.{arranged_depth}
+use Rattle.cabinet_documents.proofs.ByKey.{AreDistinct, AreKeysDistinct, in_order, pair_keys, keys_distinct, distinct, distinct_in_order}
+use Rattle.cabinet_documents.proofs.Keyed.{keys_denoted}
 use Rattle.cabinet_archives.specs.Keyed.{knows_pairs}
 use Rattle.cabinet_archives.specs.Loading.{HasTree, OfTree, IsEntry, LeadTo, added, all_added}
 use Rattle.cabinet_archives.proofs.Added.{added_arranged}

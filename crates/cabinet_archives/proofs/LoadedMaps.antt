@@ -2,27 +2,27 @@
 use Rattle.std.proofs.Common.{◌≡◌, ℕ, ◌+◌, Bor, List, [], ◌∷◌, map, refl, sym, ap, subst, ◌∙◌, arith}
 use Rattle.std.specs.Prelude.{⊤, All}
 use Rattle.std.proofs.lemmas.List.Elements.{All-nil, All-cons}
-use Rattle.archive_shape.specs.ShapeLayout.Shape.Shape.{text}
-use Rattle.archive_shape.specs.ShapeLayout.Value.{Value}
-use Rattle.archive_shape.specs.ShapeLayout.Content.{members}
+use Rattle.archive_shape_layout.specs.Shape.Shape.{text}
+use Rattle.archive_shape_layout.specs.Value.{Value}
+use Rattle.archive_shape_layout.specs.Content.{members}
 use Rattle.archive_shape.specs.Key.{HeldAt}
-use Rattle.archive_btree_walking.specs.BtreeLayout.Reading.{Place}
-use Rattle.archive_btree_walking.specs.BtreeLayout.Tree.{Tree as SearchTree, items}
-use Rattle.archive_btree_walking.specs.Maps.{IsMapAt, IsMapOf, AreEntriesAt}
-use Rattle.archive_btree_walking.specs.Refs.{entry_at}
-use Rattle.archive_btree_walking.proofs.One.{one_map}
-use Rattle.archive_btree_walking.proofs.Roots.{tree_of_value}
-use Rattle.archive_hash_walking.specs.Maps as hash
-use Rattle.archive_hash_walking.specs.Tables.{Buckets, item_positions, IsTableAt, IsTableOf}
-use Rattle.archive_hash_walking.proofs.Read.{one_table, table_is_read}
-use Rattle.cabinet_text_nodes.specs.TextGrammar.Keys.{ordered, hashed, kept}
-use Rattle.cabinet_text_nodes.specs.TextGrammar.Tree as tree
-use Rattle.cabinet_text_nodes.specs.TextGrammar.Tree.{Pairs, no_pairs}
-use Rattle.cabinet_archived.specs.Documents.Denotes.{tagged_value}
-use Rattle.cabinet_archived.specs.Documents.Node.{node_shape, pair_shape, KnowsNode}
-use Rattle.cabinet_archived.specs.Index.Maps as index
-use Rattle.cabinet_archived.specs.Index.Maps.{IndexMap, entry_positions}
-use Rattle.cabinet_archived.proofs.Index.Read.{one_map as one_index}
+use Rattle.archive_btree_layout.specs.Reading.{Place}
+use Rattle.archive_btree_layout.specs.Tree.{Tree as SearchTree, items}
+use Rattle.archive_btree_maps.specs.Maps.{IsMapAt, IsMapOf, AreEntriesAt}
+use Rattle.archive_btree_maps.specs.Refs.{entry_at}
+use Rattle.archive_btree_maps.proofs.One.{one_map}
+use Rattle.archive_btree_maps.proofs.Roots.{tree_of_value}
+use Rattle.archive_hash_maps.specs.Maps as hash
+use Rattle.archive_hash_maps.specs.Tables.{Buckets, item_positions, IsTableAt, IsTableOf}
+use Rattle.archive_hash_maps.proofs.Read.{one_table, table_is_read}
+use Rattle.cabinet_text_grammar.specs.Keys.{ordered, hashed, kept}
+use Rattle.cabinet_text_grammar.specs.Tree as tree
+use Rattle.cabinet_text_grammar.specs.Tree.{Pairs, no_pairs}
+use Rattle.cabinet_documents.specs.Denotes.{tagged_value}
+use Rattle.cabinet_documents.specs.Node.{node_shape, pair_shape, KnowsNode}
+use Rattle.archive_index.specs.Maps as index
+use Rattle.archive_index.specs.Maps.{IndexMap, entry_positions}
+use Rattle.archive_index.proofs.Read.{one_map as one_index}
 use Rattle.cabinet_archives.specs.Hashed.{table_shape}
 use Rattle.cabinet_archives.specs.Kept.{OfKept, index_shape}
 use Rattle.cabinet_archives.specs.Keyed.{knows_pairs}

@@ -1,18 +1,18 @@
 -- The pairs of a map that are loaded one after the other, and those that are left.
 use Rattle.std.proofs.Common.{◌≡◌, ◌∙◌, ℕ, Global, String, string_bytes, List, [], ◌∷◌, ◌++◌, refl, sym, ap, subst, append-nil}
 use Rattle.std.specs.Prelude.{⊤}
-use Rattle.archive_shape.specs.ShapeLayout.Shape.{Shape}
-use Rattle.archive_shape.specs.ShapeLayout.Shape.Shape.{text}
-use Rattle.archive_shape.specs.ShapeLayout.Value.{Value}
-use Rattle.archive_shape.specs.ShapeLayout.Value.Value.{string}
+use Rattle.archive_shape_layout.specs.Shape.{Shape}
+use Rattle.archive_shape_layout.specs.Shape.Shape.{text}
+use Rattle.archive_shape_layout.specs.Value.{Value}
+use Rattle.archive_shape_layout.specs.Value.Value.{string}
 use Rattle.archive_shape.specs.Key.{HeldAt}
-use Rattle.cabinet_text_nodes.specs.TextGrammar.Keys.{MapKind}
-use Rattle.cabinet_text_nodes.specs.TextGrammar.Tree as tree
-use Rattle.cabinet_text_nodes.specs.TextGrammar.Tree.{Tree, Pairs, no_pairs, more_pairs, IsLegal}
-use Rattle.cabinet_text_nodes.specs.TextGrammar.Wholes.{with_wholes, with_wholes_by}
+use Rattle.cabinet_text_grammar.specs.Keys.{MapKind}
+use Rattle.cabinet_text_grammar.specs.Tree as tree
+use Rattle.cabinet_text_grammar.specs.Tree.{Tree, Pairs, no_pairs, more_pairs, IsLegal}
+use Rattle.cabinet_text_grammar.specs.Wholes.{with_wholes, with_wholes_by}
 use Rattle.cabinet_text_nodes.specs.View.{node_tree, node_pairs}
 use Rattle.cabinet_text_nodes.specs.declared.node.Node.{Node}
-use Rattle.cabinet_archived.proofs.Documents.ByKey.{pair_keys}
+use Rattle.cabinet_documents.proofs.ByKey.{pair_keys}
 use Rattle.cabinet_archives.specs.Found.{OfDocument}
 use Rattle.cabinet_archives.specs.Keyed.{knows_pairs}
 use Rattle.cabinet_archives.specs.Loading.{HasTree, OfTree, LeadTo, AreEntriesOf, ArePairsLoaded, loaded_table, all_added}

@@ -2,19 +2,19 @@
 use Rattle.std.proofs.Common.{◌≡◌, ℕ, ◌<◌, ◌^◌, Bor, List, [], ◌∷◌, length, true, false, refl, ap, subst, sym, ◌∙◌, arith}
 use Rattle.std.proofs.Math.Bool.{Bool-set}
 use Rattle.std.proofs.Math.Logic.{∥∥₁_elim, ∥∥₁_map}
-use Rattle.archive_shape.specs.ShapeLayout.Value.{Value}
-use Rattle.archive_shape.proofs.ShapeLayout.Found.{root_is_found}
-use Rattle.archive_forms_values.specs.ShapeCanonical.Canonical.{AreBytes}
-use Rattle.cabinet_text_nodes.specs.TextGrammar.Tree.{Tree}
-use Rattle.cabinet_text_nodes.specs.TextGrammar.Wholes.{wholes_of, IsDocument}
+use Rattle.archive_shape_layout.specs.Value.{Value}
+use Rattle.archive_shape_layout.proofs.Found.{root_is_found}
+use Rattle.archive_shape_canonical.specs.Canonical.{AreBytes}
+use Rattle.cabinet_text_grammar.specs.Tree.{Tree}
+use Rattle.cabinet_text_grammar.specs.Wholes.{wholes_of, IsDocument}
 use Rattle.cabinet_text_nodes.specs.View.{node_tree}
 use Rattle.cabinet_text_nodes.specs.declared.node.Node.{Node}
-use Rattle.cabinet_archived.specs.Documents.Accepted.{Accepted}
-use Rattle.cabinet_archived.specs.Documents.Audit.{Unsound, faults, first_of}
-use Rattle.cabinet_archived.specs.Documents.Laws.{AuditDecided, IsAccepted}
-use Rattle.cabinet_archived.specs.Documents.Node.{node_shape, node_names, KnowsNode}
-use Rattle.cabinet_archived.proofs.Documents.Deciding.{audit_decides_law}
-use Rattle.cabinet_archived.proofs.Documents.Sound.{refused_law}
+use Rattle.cabinet_documents.specs.Accepted.{Accepted}
+use Rattle.cabinet_documents.specs.Audit.{Unsound, faults, first_of}
+use Rattle.cabinet_documents.specs.Laws.{AuditDecided, IsAccepted}
+use Rattle.cabinet_documents.specs.Node.{node_shape, node_names, KnowsNode}
+use Rattle.cabinet_documents.proofs.Deciding.{audit_decides_law}
+use Rattle.cabinet_documents.proofs.Sound.{refused_law}
 use Rattle.cabinet_archives.specs.Found.{OfDocument}
 use Rattle.cabinet_archives.specs.Loading.{HasTree}
 use Rattle.cabinet_archives.proofs.Reached.{root_of, root_there}

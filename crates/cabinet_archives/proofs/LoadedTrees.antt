@@ -1,17 +1,17 @@
 -- Trees of nodes that are loaded one after the other, while the table of wholes grows.
 use Rattle.std.proofs.Common.{◌≡◌, ◌∙◌, ℕ, Global, String, string_bytes, List, [], ◌∷◌, ◌++◌, map, Some, refl, sym, ap, ap₂, subst, append-nil}
 use Rattle.std.specs.Prelude.{⊤}
-use Rattle.cabinet_text_nodes.specs.TextGrammar.Tree as tree
-use Rattle.cabinet_text_nodes.specs.TextGrammar.Tree.{Tree, Pairs, no_pairs, more_pairs, IsLegal}
-use Rattle.cabinet_text_nodes.specs.TextGrammar.Wholes.{numbered, with_wholes, with_wholes_in, with_wholes_by, IsTable}
+use Rattle.cabinet_text_grammar.specs.Tree as tree
+use Rattle.cabinet_text_grammar.specs.Tree.{Tree, Pairs, no_pairs, more_pairs, IsLegal}
+use Rattle.cabinet_text_grammar.specs.Wholes.{numbered, with_wholes, with_wholes_in, with_wholes_by, IsTable}
 use Rattle.cabinet_text_nodes.specs.View.{node_tree, node_pairs, trees_of, whole_of}
 use Rattle.cabinet_text_nodes.specs.declared.node.Node.{Node}
 use Rattle.cabinet_text_nodes.specs.declared.node.Node.TheVariants as node
 use Rattle.cabinet_text_nodes.proofs.Entries.{node_stays, numbered_stays}
-use Rattle.cabinet_text_nodes.proofs.TextGrammar.Tables.{below_numbered, has_numbered, listed_table}
+use Rattle.cabinet_text_grammar.proofs.Tables.{below_numbered, has_numbered, listed_table}
 use Rattle.cabinet_text_nodes.proofs.Walks.{wholes_end, complete_adds}
 use Rattle.cabinet_text_nodes.proofs.Views.{node_tree-whole}
-use Rattle.cabinet_archived.proofs.Documents.ByKey.{pair_keys}
+use Rattle.cabinet_documents.proofs.ByKey.{pair_keys}
 
 -- ---- larger tables
 

@@ -10,12 +10,12 @@ use Rattle.std.specs.declared.cmp.Ordering.{Ordering}
 use Rattle.std.specs.declared.cmp.Ordering.TheVariants.{Less, Equal, Greater}
 use Rattle.std.proofs.lemmas.Bool.Decides.{eqb_tells}
 use Rattle.std.proofs.lemmas.Map.Lookups.{exact_bytes, exact_unsigned}
-use Rattle.cabinet_text_nodes.specs.TextGrammar.Completing.{text_in}
-use Rattle.cabinet_text_nodes.specs.TextGrammar.Spelling.{ended, lines_of}
-use Rattle.cabinet_text_nodes.specs.TextGrammar.Tree.{Tree, IsLegal, depth}
-use Rattle.cabinet_text_nodes.specs.TextGrammar.Wholes.{has, number_in, numbered, with_tree, IsNumbered, IsTable}
-use Rattle.cabinet_text_nodes.proofs.TextGrammar.Completing.{one_tree}
-use Rattle.cabinet_text_nodes.proofs.TextGrammar.Tables.{numbered_back, has_numbered, below_numbered, items_stay, listed_table, listed_numbered, legal_numbered, some_same}
+use Rattle.cabinet_text_grammar.specs.Completing.{text_in}
+use Rattle.cabinet_text_grammar.specs.Spelling.{ended, lines_of}
+use Rattle.cabinet_text_grammar.specs.Tree.{Tree, IsLegal, depth}
+use Rattle.cabinet_text_grammar.specs.Wholes.{has, number_in, numbered, with_tree, IsNumbered, IsTable}
+use Rattle.cabinet_text_grammar.proofs.Completing.{one_tree}
+use Rattle.cabinet_text_grammar.proofs.Tables.{numbered_back, has_numbered, below_numbered, items_stay, listed_table, listed_numbered, legal_numbered, some_same}
 use Rattle.cabinet_text_nodes.specs.View.{node_tree, table_of}
 use Rattle.cabinet_text_nodes.specs.declared.node.Node.{Node}
 use Rattle.cabinet_text_nodes.proofs.Added.{table_of-push}

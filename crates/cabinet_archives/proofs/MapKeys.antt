@@ -2,22 +2,22 @@
 use Rattle.std.proofs.Common.{◌≡◌, ℕ, Bor, List, [], ◌∷◌, length, map, refl, sym, ap, ◌∙◌}
 use Rattle.std.specs.Prelude.{⊤}
 use Rattle.std.proofs.lemmas.List.{length-map}
-use Rattle.archive_shape.specs.ShapeLayout.Shape.Shape.{text}
-use Rattle.archive_shape.specs.ShapeLayout.Value.{Value}
-use Rattle.archive_shape.specs.ShapeLayout.Content.{members}
+use Rattle.archive_shape_layout.specs.Shape.Shape.{text}
+use Rattle.archive_shape_layout.specs.Value.{Value}
+use Rattle.archive_shape_layout.specs.Content.{members}
 use Rattle.archive_shape.specs.Key.{HeldAt}
 use Rattle.archive_shape.specs.declared.references.refs.Ref.{Ref}
 use Rattle.archive_forms_values.specs.Parts.{HasValue}
 use Rattle.archive_forms_values.specs.declared.text.string.ArchivedString.{ArchivedString}
-use Rattle.archive_btree_walking.specs.BtreeLayout.Reading.{Place}
-use Rattle.archive_btree_walking.specs.BtreeLayout.Tree.{Tree, items}
-use Rattle.archive_btree_walking.specs.Maps.{IsMapAt, IsMapOf}
-use Rattle.archive_btree_walking.specs.Refs.{key_at}
-use Rattle.archive_btree_walking.proofs.Roots.{tree_of_value}
-use Rattle.archive_hash_walking.specs.Maps as pairs
-use Rattle.cabinet_archived.specs.Documents.Node.{node_shape, KnowsNode}
-use Rattle.cabinet_archived.specs.Documents.Table.{item_keys}
-use Rattle.cabinet_archived.specs.Index.Maps.{count_of, entry_positions}
+use Rattle.archive_btree_layout.specs.Reading.{Place}
+use Rattle.archive_btree_layout.specs.Tree.{Tree, items}
+use Rattle.archive_btree_maps.specs.Maps.{IsMapAt, IsMapOf}
+use Rattle.archive_btree_maps.specs.Refs.{key_at}
+use Rattle.archive_btree_maps.proofs.Roots.{tree_of_value}
+use Rattle.archive_hash_maps.specs.Maps as pairs
+use Rattle.cabinet_documents.specs.Node.{node_shape, KnowsNode}
+use Rattle.cabinet_documents.specs.Table.{item_keys}
+use Rattle.archive_index.specs.Maps.{count_of, entry_positions}
 use Rattle.cabinet_archives.specs.Kept.{OfKept, index_shape}
 use Rattle.cabinet_archives.specs.Keyed.{knows_pairs}
 use Rattle.cabinet_archives.specs.Ordered.{map_shape}

@@ -4,10 +4,10 @@ use Rattle.std.specs.Prelude.{All}
 use Rattle.std.specs.BTreeMap.{BTreeMap}
 use Rattle.std.specs.Ordering.{nat_cmp, ord_max}
 use Rattle.std.proofs.lemmas.List.Elements.{All-head, All-tail}
-use Rattle.archive_shape.specs.ShapeLayout.Content.{Part}
-use Rattle.archive_shape.specs.ShapeLayout.Content.Part.{at}
+use Rattle.archive_shape_layout.specs.Content.{Part}
+use Rattle.archive_shape_layout.specs.Content.Part.{at}
 use Rattle.archive_shape.specs.declared.references.refs.Ref.{Ref}
-use Rattle.cabinet_archived.specs.Documents.Node.{node_shape}
+use Rattle.cabinet_documents.specs.Node.{node_shape}
 use Rattle.cabinet_archived.specs.declared.node.ArchivedNode.{ArchivedNode}
 use Rattle.cabinet_archives.specs.Sound.{HasHeight, AreHeights, AuditsTo}
 use Rattle.cabinet_archives.specs.declared.opening.refusal.OpenRefusal.{OpenRefusal}

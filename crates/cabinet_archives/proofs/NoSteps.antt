@@ -2,12 +2,12 @@
 use Rattle.std.proofs.Common.{◌≡◌, ℕ, List, [], ◌∷◌, Bor, Global, refl, sym, subst, arith, ⊎_elim}
 use Rattle.std.specs.Prelude.{true, false, ⊤, String}
 use Rattle.std.specs.Int.{w64}
-use Rattle.archive_shape.specs.ShapeLayout.Shape.{Shape}
-use Rattle.archive_shape.specs.ShapeLayout.Content.{Names}
-use Rattle.archive_shape.specs.ShapeLayout.Shape.Shape.{number, truth, text, shared, option, vector}
-use Rattle.archive_shape.specs.ShapeLayout.Shape.Pointee.{str}
-use Rattle.cabinet_text_nodes.specs.TextGrammar.Path as grammar
-use Rattle.cabinet_archived.specs.Documents.Node.{node_shape, KnowsNode, whole_shape}
+use Rattle.archive_shape_layout.specs.Shape.{Shape}
+use Rattle.archive_shape_layout.specs.Content.{Names}
+use Rattle.archive_shape_layout.specs.Shape.Shape.{number, truth, text, shared, option, vector}
+use Rattle.archive_shape_layout.specs.Shape.Pointee.{str}
+use Rattle.cabinet_text_grammar.specs.Path as grammar
+use Rattle.cabinet_documents.specs.Node.{node_shape, KnowsNode, whole_shape}
 use Rattle.cabinet_archived.specs.Kind.{IsKindAt, IsTagged}
 use Rattle.cabinet_archived.specs.declared.kind.ArchivedKind.{ArchivedKind}
 use Rattle.cabinet_archived.specs.declared.kind.ArchivedKind.TheVariants as kind

@@ -1,14 +1,14 @@
 -- The kind of a node, by its tag.
 use Rattle.std.proofs.Common.{◌≡◌, ℕ, zero, suc, List, sym, ap, ◌∙◌}
-use Rattle.archive_shape.specs.ShapeLayout.Shape.{Shape}
-use Rattle.archive_shape.specs.ShapeLayout.Value.{Value}
-use Rattle.archive_shape.specs.ShapeLayout.Content.{Names}
-use Rattle.cabinet_text_nodes.specs.TextGrammar.Tree.{Tree}
+use Rattle.archive_shape_layout.specs.Shape.{Shape}
+use Rattle.archive_shape_layout.specs.Value.{Value}
+use Rattle.archive_shape_layout.specs.Content.{Names}
+use Rattle.cabinet_text_grammar.specs.Tree.{Tree}
 use Rattle.cabinet_text_nodes.specs.Kinds.{kind_of}
 use Rattle.cabinet_text_nodes.specs.declared.node.Kind as node
 use Rattle.cabinet_text_nodes.specs.declared.node.Kind.TheVariants as kind
-use Rattle.cabinet_archived.specs.Documents.Denotes.{Denotes, tagged_value}
-use Rattle.cabinet_archived.specs.Documents.Denotes.Denotes.{denotes_truth, denotes_number, denotes_text, denotes_shared, denotes_nothing, denotes_some, denotes_list, denotes_ordered, denotes_hashed, denotes_kept, denotes_whole}
+use Rattle.cabinet_documents.specs.Denotes.{Denotes, tagged_value}
+use Rattle.cabinet_documents.specs.Denotes.Denotes.{denotes_truth, denotes_number, denotes_text, denotes_shared, denotes_nothing, denotes_some, denotes_list, denotes_ordered, denotes_hashed, denotes_kept, denotes_whole}
 use Rattle.cabinet_archived.specs.Kind.{IsTagged}
 use Rattle.cabinet_archives.specs.Found.{OfDocument}
 

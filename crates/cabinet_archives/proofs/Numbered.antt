@@ -1,17 +1,17 @@
 -- The entry of a key in a kept map: one position, which is that of the pair with the entry's number.
 use Rattle.std.proofs.Common.{◌≡◌, ℕ, ◌+◌, ◌*◌, ◌<◌, List, Some, sym, ap, subst, ◌∙◌, arith}
 use Rattle.std.specs.List.{slice_get}
-use Rattle.archive_shape.specs.ShapeLayout.Shape.{size_of}
-use Rattle.archive_shape.specs.ShapeLayout.Shape.Shape.{text}
-use Rattle.archive_shape.specs.ShapeLayout.Value.{Value, Values}
-use Rattle.archive_shape.specs.ShapeLayout.Value.Value.{group}
+use Rattle.archive_shape_layout.specs.Shape.{size_of}
+use Rattle.archive_shape_layout.specs.Shape.Shape.{text}
+use Rattle.archive_shape_layout.specs.Value.{Value, Values}
+use Rattle.archive_shape_layout.specs.Value.Value.{group}
 use Rattle.archive_shape.specs.Key.{HeldAt}
-use Rattle.archive_forms_values.specs.ShapeLayout.Path.{value_in}
-use Rattle.cabinet_archived.specs.Documents.Denotes.{pair_value}
-use Rattle.cabinet_archived.specs.Documents.Node.{node_shape, pair_shape, KnowsNode}
-use Rattle.cabinet_archived.specs.Index.Maps.{IndexMap, IsMapAt, count_of, entry_positions}
-use Rattle.cabinet_archived.proofs.Documents.IndexSteps.{IsEntryOf}
-use Rattle.cabinet_archived.proofs.Index.Read.{one_map}
+use Rattle.archive_shape_layout.specs.Path.{value_in}
+use Rattle.cabinet_documents.specs.Denotes.{pair_value}
+use Rattle.cabinet_documents.specs.Node.{node_shape, pair_shape, KnowsNode}
+use Rattle.archive_index.specs.Maps.{IndexMap, IsMapAt, count_of, entry_positions}
+use Rattle.cabinet_documents.proofs.IndexSteps.{IsEntryOf}
+use Rattle.archive_index.proofs.Read.{one_map}
 use Rattle.cabinet_archives.specs.Kept.{HasNumbered, index_shape}
 use Rattle.cabinet_archives.specs.Keyed.{HasPair, knows_pairs}
 use Rattle.cabinet_archives.proofs.IndexLookups.{at_position}

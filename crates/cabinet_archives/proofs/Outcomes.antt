@@ -1,13 +1,13 @@
 -- The answer where a leaf is put in a node, by the tag of the node's value.
 use Rattle.std.proofs.Common.{◌≡◌, ℕ, ℤ, ◌<◌, ◌==◌, Bool, true, false, if◌then◌else◌, List, length, refl, sym, ap, ◌∙◌, arith}
-use Rattle.archive_shape.specs.ShapeLayout.Value.{Value}
-use Rattle.archive_shape.specs.ShapeLayout.Value.Value.{string}
-use Rattle.cabinet_text_nodes.specs.TextGrammar.Tree.{Leaf, truth, number, text, Tree, leaf}
-use Rattle.cabinet_text_nodes.specs.TextGrammar.Answering.{done, refused, fits, outcome_there}
-use Rattle.cabinet_archived.specs.Documents.Denotes.{Denotes, tagged_value}
-use Rattle.cabinet_archived.specs.Documents.Denotes.Denotes.{denotes_truth, denotes_number, denotes_text, denotes_shared, denotes_nothing, denotes_some, denotes_list, denotes_ordered, denotes_hashed, denotes_kept, denotes_whole}
-use Rattle.cabinet_archived.specs.Documents.Laws.{payload_of}
-use Rattle.cabinet_archived.proofs.Documents.Known.{leaf_tag}
+use Rattle.archive_shape_layout.specs.Value.{Value}
+use Rattle.archive_shape_layout.specs.Value.Value.{string}
+use Rattle.cabinet_text_grammar.specs.Tree.{Leaf, truth, number, text, Tree, leaf}
+use Rattle.cabinet_text_grammar.specs.Answering.{done, refused, fits, outcome_there}
+use Rattle.cabinet_documents.specs.Denotes.{Denotes, tagged_value}
+use Rattle.cabinet_documents.specs.Denotes.Denotes.{denotes_truth, denotes_number, denotes_text, denotes_shared, denotes_nothing, denotes_some, denotes_list, denotes_ordered, denotes_hashed, denotes_kept, denotes_whole}
+use Rattle.cabinet_documents.specs.Laws.{payload_of}
+use Rattle.cabinet_documents.proofs.Known.{leaf_tag}
 
 -- a tag, its payload, and the document that they denote: a leaf, or one that takes no leaf
 pub data Denoted (tag : ℕ) (w : Value) (t : Tree) : Type 0 where

@@ -1,23 +1,23 @@
 -- The own bytes of the leaf at a path begin in the node that the path leads to.
 use Rattle.std.proofs.Common.{◌≡◌, ℕ, ◌+◌, ◌*◌, true, false, w64, List, [], ◌∷◌, ◌++◌, length, Option, Some, refl, sym, ap, subst, ◌∙◌, arith}
-use Rattle.archive_shape.specs.ShapeLayout.Shape.Shape.{truth, number, text}
-use Rattle.archive_shape.specs.ShapeLayout.Shape.Pointee.{str}
-use Rattle.archive_shape.specs.ShapeLayout.Content.{Part}
-use Rattle.archive_shape.specs.ShapeLayout.Content.Part.{at, behind}
-use Rattle.archive_shape.specs.ShapeLayout.Holds.{root_position}
+use Rattle.archive_shape_layout.specs.Shape.Shape.{truth, number, text}
+use Rattle.archive_shape_layout.specs.Shape.Pointee.{str}
+use Rattle.archive_shape_layout.specs.Content.{Part}
+use Rattle.archive_shape_layout.specs.Content.Part.{at, behind}
+use Rattle.archive_shape_layout.specs.Holds.{root_position}
 use Rattle.archive_shape.specs.Key.{HeldAt}
-use Rattle.archive_forms_values.proofs.FormsLaws.Once.{one_place}
+use Rattle.archive_forms_laws.proofs.Once.{one_place}
 use Rattle.archive_forms_values.specs.Parts.{PointsTo}
-use Rattle.cabinet_text_nodes.specs.TextGrammar.Tree as document
-use Rattle.cabinet_text_nodes.specs.TextGrammar.Tree.{Leaf, Tree, leaf}
-use Rattle.cabinet_text_nodes.specs.TextGrammar.Path.{Step, node_at, enters}
-use Rattle.cabinet_text_nodes.specs.TextGrammar.Answering.{fits}
-use Rattle.cabinet_archived.specs.Documents.Node.{node_shape, KnowsNode, own_bytes}
-use Rattle.cabinet_archived.specs.Documents.Accepted.{Accepted}
-use Rattle.cabinet_archived.specs.Documents.OwnBytes.{OwnBytes, IsOwn, own_truth, own_number, own_inline, own_behind}
-use Rattle.cabinet_archived.proofs.Documents.Places.{node_behind}
-use Rattle.cabinet_archived.proofs.Documents.HeldNodes.{none_seen, held}
-use Rattle.cabinet_archived.proofs.Documents.Steps.{behind_below}
+use Rattle.cabinet_text_grammar.specs.Tree as document
+use Rattle.cabinet_text_grammar.specs.Tree.{Leaf, Tree, leaf}
+use Rattle.cabinet_text_grammar.specs.Path.{Step, node_at, enters}
+use Rattle.cabinet_text_grammar.specs.Answering.{fits}
+use Rattle.cabinet_documents.specs.Node.{node_shape, KnowsNode, own_bytes}
+use Rattle.cabinet_documents.specs.Accepted.{Accepted}
+use Rattle.cabinet_documents.specs.OwnBytes.{OwnBytes, IsOwn, own_truth, own_number, own_inline, own_behind}
+use Rattle.cabinet_documents.proofs.Places.{node_behind}
+use Rattle.cabinet_documents.proofs.HeldNodes.{none_seen, held}
+use Rattle.cabinet_documents.proofs.Steps.{behind_below}
 use Rattle.cabinet_archives.specs.Way.{StepsTo, steps_inside, steps_place, steps_key, steps_hashed, steps_kept, GoesTo, goes_nowhere, goes_on, steps_whole}
 use Rattle.cabinet_archives.specs.Hashed.{HasBucket}
 use Rattle.cabinet_archives.specs.Kept.{HasNumbered}

@@ -2,26 +2,26 @@
 use Rattle.std.proofs.Common.{◌≡◌, ℕ, zero, suc, ◌+◌, List, [], ◌∷◌, ◌++◌, nat_lt, map, Some, refl, sym, ap, subst, ◌∙◌, add-zero, append-nil}
 use Rattle.std.specs.Prelude.{⊤}
 use Rattle.std.specs.List.{flat_map, slice_get}
-use Rattle.archive_shape.specs.ShapeLayout.Bytes.{align_up}
-use Rattle.archive_shape.specs.ShapeLayout.Shape.Shape.{text}
-use Rattle.archive_shape.specs.ShapeLayout.Value.{Value, Values}
-use Rattle.archive_shape.specs.ShapeLayout.Value.Value.{group}
-use Rattle.archive_shape.specs.ShapeLayout.Value.Values.{no_values, more_values}
-use Rattle.archive_shape.specs.ShapeLayout.Content.{members}
-use Rattle.archive_shape.specs.ShapeLayout.Shape.Shapes.{no_shapes}
-use Rattle.archive_shape.specs.ShapeLayout.Content.Part.{at}
+use Rattle.archive_shape_layout.specs.Bytes.{align_up}
+use Rattle.archive_shape_layout.specs.Shape.Shape.{text}
+use Rattle.archive_shape_layout.specs.Value.{Value, Values}
+use Rattle.archive_shape_layout.specs.Value.Value.{group}
+use Rattle.archive_shape_layout.specs.Value.Values.{no_values, more_values}
+use Rattle.archive_shape_layout.specs.Content.{members}
+use Rattle.archive_shape_layout.specs.Shape.Shapes.{no_shapes}
+use Rattle.archive_shape_layout.specs.Content.Part.{at}
 use Rattle.archive_shape.specs.Key.{HeldAt}
 use Rattle.archive_forms_values.specs.Fields.{field, field_position}
 use Rattle.archive_forms_values.proofs.Held.{fields_at}
-use Rattle.archive_btree_walking.specs.BtreeLayout.Reading.{Place}
-use Rattle.archive_btree_walking.specs.Maps.{IsEntryAt, AreEntriesAt}
-use Rattle.archive_hash_walking.specs.Tables.{AreItemsAt}
-use Rattle.cabinet_archived.specs.Documents.Node.{node_names, node_shape, pair_shape, KnowsNode}
-use Rattle.cabinet_archived.specs.Documents.Walk.{Stop}
-use Rattle.cabinet_archived.specs.Documents.Audit.{Unsound, too_deep, unless, faults}
-use Rattle.cabinet_archived.specs.Documents.Table.{item_keys}
-use Rattle.cabinet_archived.proofs.Documents.TableWalks.{pair_place}
-use Rattle.cabinet_archived.proofs.Documents.TreeWalks.{ItemsWalk, EmptyMapWalked, no_items, more_items}
+use Rattle.archive_btree_layout.specs.Reading.{Place}
+use Rattle.archive_btree_maps.specs.Maps.{IsEntryAt, AreEntriesAt}
+use Rattle.archive_hash_maps.specs.Tables.{AreItemsAt}
+use Rattle.cabinet_documents.specs.Node.{node_names, node_shape, pair_shape, KnowsNode}
+use Rattle.cabinet_documents.specs.Walk.{Stop}
+use Rattle.cabinet_documents.specs.Audit.{Unsound, too_deep, unless, faults}
+use Rattle.cabinet_documents.specs.Table.{item_keys}
+use Rattle.cabinet_documents.proofs.TableWalks.{pair_place}
+use Rattle.cabinet_documents.proofs.TreeWalks.{ItemsWalk, EmptyMapWalked, no_items, more_items}
 use Rattle.cabinet_archives.specs.Keyed.{knows_pairs}
 use Rattle.cabinet_archives.specs.Sound.{HasSoundWalk}
 use Rattle.cabinet_archives.proofs.Soundness.{left_nil, right_nil}

@@ -2,18 +2,18 @@
 use Rattle.std.proofs.Common.{◌≡◌, ◌∙◌, ℕ, ◌+◌, ◌≤◌, Bor, List, [], ◌∷◌, ◌++◌, map, Result, Ok, Err, refl, sym, ap, subst, arith, lt-ltb}
 use Rattle.std.specs.Prelude.{⊤, All}
 use Rattle.std.specs.List.{flat_map}
-use Rattle.archive_shape.specs.ShapeLayout.Shape.{Shape}
-use Rattle.archive_shape.specs.ShapeLayout.Shape.Shape.{text}
-use Rattle.archive_shape.specs.ShapeLayout.Value.{Value, Values}
-use Rattle.archive_shape.specs.ShapeLayout.Content.{members}
-use Rattle.archive_shape.specs.ShapeLayout.Content.Part.{at}
+use Rattle.archive_shape_layout.specs.Shape.{Shape}
+use Rattle.archive_shape_layout.specs.Shape.Shape.{text}
+use Rattle.archive_shape_layout.specs.Value.{Value, Values}
+use Rattle.archive_shape_layout.specs.Content.{members}
+use Rattle.archive_shape_layout.specs.Content.Part.{at}
 use Rattle.archive_shape.specs.declared.references.refs.Ref.{Ref}
-use Rattle.archive_btree_walking.specs.Maps.{AreEntriesAt}
-use Rattle.archive_btree_walking.specs.Refs as entries
-use Rattle.archive_hash_walking.specs.Maps.{value_at}
-use Rattle.cabinet_archived.specs.Documents.Node.{node_names, node_shape, KnowsNode}
-use Rattle.cabinet_archived.specs.Documents.Audit.{Unsound, too_deep, unless, faults}
-use Rattle.cabinet_archived.specs.Documents.Walk.{Stop, Walks}
+use Rattle.archive_btree_maps.specs.Maps.{AreEntriesAt}
+use Rattle.archive_btree_maps.specs.Refs as entries
+use Rattle.archive_hash_maps.specs.Maps.{value_at}
+use Rattle.cabinet_documents.specs.Node.{node_names, node_shape, KnowsNode}
+use Rattle.cabinet_documents.specs.Audit.{Unsound, too_deep, unless, faults}
+use Rattle.cabinet_documents.specs.Walk.{Stop, Walks}
 use Rattle.cabinet_archived.specs.declared.node.ArchivedNode.{ArchivedNode}
 use Rattle.cabinet_archives.specs.declared.opening.refusal.OpenRefusal.{OpenRefusal}
 use Rattle.cabinet_archives.specs.Sound.{Audits, Reports}

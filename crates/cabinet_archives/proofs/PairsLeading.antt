@@ -4,18 +4,18 @@ use Rattle.std.specs.Prelude.{⊤}
 use Rattle.std.specs.List.{slice_get}
 use Rattle.std.proofs.Math.Bool.{Bool-set}
 use Rattle.std.proofs.Math.Logic.{∥∥₁_elim}
-use Rattle.archive_shape.specs.ShapeLayout.Shape.Shape.{text}
-use Rattle.archive_shape.specs.ShapeLayout.Shape.Shapes.{no_shapes}
-use Rattle.archive_shape.specs.ShapeLayout.Value.{Value}
-use Rattle.archive_shape.specs.ShapeLayout.Content.{Part, members}
+use Rattle.archive_shape_layout.specs.Shape.Shape.{text}
+use Rattle.archive_shape_layout.specs.Shape.Shapes.{no_shapes}
+use Rattle.archive_shape_layout.specs.Value.{Value}
+use Rattle.archive_shape_layout.specs.Content.{Part, members}
 use Rattle.archive_forms_values.specs.Fields.{field_position}
-use Rattle.archive_forms_values.specs.FormsLaws.Text.{IsText}
-use Rattle.archive_forms_values.specs.ShapeLayout.Path.{value_in}
-use Rattle.archive_btree_walking.specs.BtreeLayout.Reading.{Place}
-use Rattle.archive_btree_walking.specs.Maps.{AreEntriesAt}
-use Rattle.cabinet_archived.specs.Documents.Audit.{Unsound}
-use Rattle.cabinet_archived.specs.Documents.Denotes.{pair_value}
-use Rattle.cabinet_archived.specs.Documents.Node.{node_shape, KnowsNode}
+use Rattle.archive_forms_laws.specs.Text.{IsText}
+use Rattle.archive_shape_layout.specs.Path.{value_in}
+use Rattle.archive_btree_layout.specs.Reading.{Place}
+use Rattle.archive_btree_maps.specs.Maps.{AreEntriesAt}
+use Rattle.cabinet_documents.specs.Audit.{Unsound}
+use Rattle.cabinet_documents.specs.Denotes.{pair_value}
+use Rattle.cabinet_documents.specs.Node.{node_shape, KnowsNode}
 use Rattle.cabinet_archives.specs.Keyed.{HasPair, KeyLeads, KeyLeadsNowhere}
 use Rattle.cabinet_archives.specs.Sound.{HasSoundWalk, IsSoundPart}
 use Rattle.cabinet_archives.proofs.Entries.{place_of, value_of, pair_there}

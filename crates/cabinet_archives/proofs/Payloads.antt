@@ -2,51 +2,51 @@
 use Rattle.std.proofs.Common.{◌≡◌, ℕ, ◌<◌, List, [], ◌∷◌, length, map, refl, sym, ap, ◌∙◌, arith}
 use Rattle.std.specs.Prelude.{false, ⊤}
 use Rattle.std.proofs.lemmas.List.{length-map}
-use Rattle.archive_shape.specs.ShapeLayout.Bytes.{window}
-use Rattle.archive_shape.specs.ShapeLayout.Shape.{Shape}
-use Rattle.archive_shape.specs.ShapeLayout.Shape.Shape.{text, shared, option, vector}
-use Rattle.archive_shape.specs.ShapeLayout.Shape.Pointee.{str}
-use Rattle.archive_shape.specs.ShapeLayout.Value.{Value, Values, count_values}
-use Rattle.archive_shape.specs.ShapeLayout.Value.Value.{string, counted as counting}
-use Rattle.archive_shape.specs.ShapeLayout.Value.Values.{no_values, more_values}
-use Rattle.archive_shape.specs.ShapeLayout.Content.{Names, members}
+use Rattle.archive_shape_layout.specs.Bytes.{window}
+use Rattle.archive_shape_layout.specs.Shape.{Shape}
+use Rattle.archive_shape_layout.specs.Shape.Shape.{text, shared, option, vector}
+use Rattle.archive_shape_layout.specs.Shape.Pointee.{str}
+use Rattle.archive_shape_layout.specs.Value.{Value, Values, count_values}
+use Rattle.archive_shape_layout.specs.Value.Value.{string, counted as counting}
+use Rattle.archive_shape_layout.specs.Value.Values.{no_values, more_values}
+use Rattle.archive_shape_layout.specs.Content.{Names, members}
 use Rattle.archive_shape.specs.Key.{HeldAt}
 use Rattle.archive_shape.proofs.Held.{claims_within}
-use Rattle.archive_forms_values.specs.FormsLaws.Text.{HasText, IsText, IsTextThere}
-use Rattle.archive_forms_values.proofs.FormsLaws.Held.{held_is_text_law, text_value}
+use Rattle.archive_forms_laws.specs.Text.{HasText, IsText, IsTextThere}
+use Rattle.archive_forms_laws.proofs.Held.{held_is_text_law, text_value}
 use Rattle.archive_forms_rc.specs.Pointers.{Counts, IsRcStrAt}
 use Rattle.archive_forms_rc.specs.Pointers.Counts.{counts, leads_back}
 use Rattle.archive_forms_values.specs.Parts.{HasValue, IsNoneAt, IsSomeAt, IsVecAt}
-use Rattle.archive_btree_walking.specs.BtreeLayout.Reading.{Place}
-use Rattle.archive_btree_walking.specs.BtreeLayout.Tree.{Tree as SearchTree, items}
-use Rattle.archive_btree_walking.specs.Maps.{IsMapAt, IsMapOf, AreEntriesAt}
-use Rattle.archive_btree_walking.proofs.Roots.{tree_of_value}
-use Rattle.archive_hash_walking.specs.Tables.{Buckets, full_places, item_position, item_positions, IsTableAt}
-use Rattle.archive_hash_walking.proofs.Read.{table_is_read}
-use Rattle.cabinet_text_nodes.specs.TextGrammar.Keys.{MapKind, ordered, hashed, kept}
-use Rattle.cabinet_text_nodes.specs.TextGrammar.Tree.{Leaf, Tree, leaf, shared as shared_text, Trees, Pairs, count, pair_count}
-use Rattle.cabinet_text_nodes.specs.TextGrammar.Item.{leaf_item, shared_item, none_item, some_item, list_item, map_item, whole_head}
-use Rattle.cabinet_text_nodes.specs.TextGrammar.Answering.{head_of}
-use Rattle.cabinet_archived.specs.Documents.Node.{node_shape, pair_shape, KnowsNode, whole_shape}
-use Rattle.cabinet_archived.specs.Documents.Denotes.{Denotes, DenoteAll, DenotePairs, tagged_value}
-use Rattle.cabinet_archived.specs.Documents.Denotes.DenoteAll.{denote_none, denote_more}
-use Rattle.cabinet_archived.specs.Documents.Denotes.DenotePairs.{denote_no_pairs, denote_pair}
-use Rattle.cabinet_archived.specs.Documents.Laws.{payload_of}
-use Rattle.cabinet_archived.proofs.Documents.Arranged.{arranged_count}
-use Rattle.cabinet_archived.proofs.Documents.ByKey.{in_order}
-use Rattle.cabinet_archived.proofs.Documents.Changing.{of_some, of_list}
+use Rattle.archive_btree_layout.specs.Reading.{Place}
+use Rattle.archive_btree_layout.specs.Tree.{Tree as SearchTree, items}
+use Rattle.archive_btree_maps.specs.Maps.{IsMapAt, IsMapOf, AreEntriesAt}
+use Rattle.archive_btree_maps.proofs.Roots.{tree_of_value}
+use Rattle.archive_hash_maps.specs.Tables.{Buckets, full_places, item_position, item_positions, IsTableAt}
+use Rattle.archive_hash_maps.proofs.Read.{table_is_read}
+use Rattle.cabinet_text_grammar.specs.Keys.{MapKind, ordered, hashed, kept}
+use Rattle.cabinet_text_grammar.specs.Tree.{Leaf, Tree, leaf, shared as shared_text, Trees, Pairs, count, pair_count}
+use Rattle.cabinet_text_grammar.specs.Item.{leaf_item, shared_item, none_item, some_item, list_item, map_item, whole_head}
+use Rattle.cabinet_text_grammar.specs.Answering.{head_of}
+use Rattle.cabinet_documents.specs.Node.{node_shape, pair_shape, KnowsNode, whole_shape}
+use Rattle.cabinet_documents.specs.Denotes.{Denotes, DenoteAll, DenotePairs, tagged_value}
+use Rattle.cabinet_documents.specs.Denotes.DenoteAll.{denote_none, denote_more}
+use Rattle.cabinet_documents.specs.Denotes.DenotePairs.{denote_no_pairs, denote_pair}
+use Rattle.cabinet_documents.specs.Laws.{payload_of}
+use Rattle.cabinet_documents.proofs.Arranged.{arranged_count}
+use Rattle.cabinet_documents.proofs.ByKey.{in_order}
+use Rattle.cabinet_documents.proofs.Changing.{of_some, of_list}
 use Rattle.cabinet_archived.specs.Kind.{IsTagged}
 use Rattle.cabinet_archives.specs.Keyed.{knows_pairs}
 use Rattle.cabinet_archives.specs.Found.{OfDocument}
 use Rattle.cabinet_archives.specs.Hashed.{table_shape}
 use Rattle.cabinet_archives.specs.Kept.{OfKept, index_shape}
 use Rattle.cabinet_archives.specs.Ordered.{map_shape}
-use Rattle.cabinet_archived.specs.Index.Maps.{count_of, entry_positions}
+use Rattle.archive_index.specs.Maps.{count_of, entry_positions}
 use Rattle.cabinet_archives.proofs.IndexPairs.{entries_of, map_of_value, positions_counted}
 use Rattle.cabinet_archives.proofs.Pairs.{pair_entry, entries_of_pairs}
 use Rattle.cabinet_archives.proofs.Ways.{Boxed}
 use Rattle.cabinet_archives.proofs.Stepping.{nothing_is, shared_is, leaf_is, kind_of, map_by}
-use Rattle.cabinet_archived.specs.Documents.Denotes.Denotes.{denotes_truth, denotes_number, denotes_text, denotes_shared, denotes_nothing, denotes_some, denotes_list, denotes_ordered, denotes_hashed, denotes_kept, denotes_whole}
+use Rattle.cabinet_documents.specs.Denotes.Denotes.{denotes_truth, denotes_number, denotes_text, denotes_shared, denotes_nothing, denotes_some, denotes_list, denotes_ordered, denotes_hashed, denotes_kept, denotes_whole}
 
 -- ---- texts
 

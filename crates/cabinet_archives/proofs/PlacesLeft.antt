@@ -3,13 +3,13 @@ use Rattle.std.proofs.Common.{◌≡◌, ℕ, suc, ◌<◌, ◌==◌, Bool, Bor,
 use Rattle.std.specs.List.{flat_map, slice_get}
 use Rattle.std.proofs.lemmas.Bool.{ne_eqb}
 use Rattle.archive_shape.specs.declared.references.refs.Ref.{Ref}
-use Rattle.archive_hash_probing.specs.ShapeCanonical.FirstFit.{hash_tag}
-use Rattle.archive_hash_probing.specs.ShapeCanonical.Hash.{text_hash}
-use Rattle.archive_hash_walking.specs.Tables.{Buckets, full_places}
-use Rattle.archive_hash_walking.specs.Places.{full_place}
-use Rattle.cabinet_archived.specs.Documents.Audit as audit
-use Rattle.cabinet_archived.specs.Documents.Audit.{unless, tag_faults}
-use Rattle.cabinet_archived.specs.Documents.Table.{Slot, Table}
+use Rattle.archive_shape_canonical.specs.FirstFit.{hash_tag}
+use Rattle.archive_shape_canonical.specs.Hash.{text_hash}
+use Rattle.archive_hash_maps.specs.Tables.{Buckets, full_places}
+use Rattle.archive_hash_maps.specs.Places.{full_place}
+use Rattle.cabinet_documents.specs.Audit as audit
+use Rattle.cabinet_documents.specs.Audit.{unless, tag_faults}
+use Rattle.cabinet_documents.specs.Table.{Slot, Table}
 use Rattle.cabinet_archives.proofs.SlotLookups.{full_low}
 
 pub flat_read : {A B C : Type 0} (f : B → List C) (g : A → B) (xs : List A) → flat_map f (map g xs) ≡ flat_map (λ x. f (g x)) xs

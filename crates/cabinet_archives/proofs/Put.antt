@@ -1,21 +1,21 @@
 -- The answer where a leaf is put in a node of a known kind, and the position of a text's bytes.
 use Rattle.std.proofs.Common.{◌≡◌, ℕ, ℤ, ◌+◌, ◌-◌, ◌<◌, ◌==◌, Bool, Bor, true, if◌then◌else◌, List, length, take, drop, slice_index, Some, refl, sym, ap, subst, ◌∙◌, arith}
-use Rattle.archive_shape.specs.ShapeLayout.Bytes.{word_at, target_from}
-use Rattle.archive_shape.specs.ShapeLayout.Shape.{Shape}
-use Rattle.archive_shape.specs.ShapeLayout.Shape.Shape.{text as text_shape}
-use Rattle.archive_shape.specs.ShapeLayout.Value.{Value}
-use Rattle.archive_shape.specs.ShapeLayout.Content.{Names, IsInline}
+use Rattle.archive_shape_layout.specs.Bytes.{word_at, target_from}
+use Rattle.archive_shape_layout.specs.Shape.{Shape}
+use Rattle.archive_shape_layout.specs.Shape.Shape.{text as text_shape}
+use Rattle.archive_shape_layout.specs.Value.{Value}
+use Rattle.archive_shape_layout.specs.Content.{Names, IsInline}
 use Rattle.archive_shape.specs.Bytes.{overwrite}
 use Rattle.archive_shape.specs.Key.{HeldAt}
 use Rattle.archive_shape.proofs.Held.{claims_within}
-use Rattle.archive_forms_values.specs.FormsLaws.Text.{own_bytes, LiesAt, HasText, HasLength, IsTextThere}
-use Rattle.archive_forms_values.proofs.FormsLaws.Held.{held_is_text_law, text_value}
+use Rattle.archive_forms_laws.specs.Text.{own_bytes, LiesAt, HasText, HasLength, IsTextThere}
+use Rattle.archive_forms_laws.proofs.Held.{held_is_text_law, text_value}
 use Rattle.archive_forms_values.specs.Parts.{HasValue}
 use Rattle.archive_forms_values.proofs.Placed.{stands_far}
-use Rattle.cabinet_text_nodes.specs.TextGrammar.Tree.{Leaf, truth, number, text, Tree}
-use Rattle.cabinet_text_nodes.specs.TextGrammar.Answering.{done, refused, fits, outcome_there}
-use Rattle.cabinet_archived.specs.Documents.Node as node
-use Rattle.cabinet_archived.proofs.Documents.Known.{leaf_tag}
+use Rattle.cabinet_text_grammar.specs.Tree.{Leaf, truth, number, text, Tree}
+use Rattle.cabinet_text_grammar.specs.Answering.{done, refused, fits, outcome_there}
+use Rattle.cabinet_documents.specs.Node as node
+use Rattle.cabinet_documents.proofs.Known.{leaf_tag}
 use Rattle.cabinet_archived.specs.Kind.{IsTagged, IsKindAt}
 use Rattle.cabinet_archived.specs.declared.kind.ArchivedKind.{ArchivedKind}
 use Rattle.cabinet_archived.specs.declared.kind.ArchivedKind.TheVariants as kind

@@ -1,21 +1,21 @@
 -- The answer, and the bytes after it, where a leaf is put in the node that a path reaches, or none is reached.
 use Rattle.std.proofs.Common.{◌≡◌, ℕ, Bor, true, false, if◌then◌else◌, List, length, refl, sym, ap, subst, ◌∙◌}
 use Rattle.std.proofs.Math.Logic.{∥∥₁_map}
-use Rattle.archive_shape.specs.ShapeLayout.Holds.{root_position}
-use Rattle.archive_shape.specs.ShapeLayout.Content.Part.{at}
+use Rattle.archive_shape_layout.specs.Holds.{root_position}
+use Rattle.archive_shape_layout.specs.Content.Part.{at}
 use Rattle.archive_shape.specs.Key.{HeldAt}
-use Rattle.archive_shape.proofs.ShapeLayout.Found.{root_is_found}
+use Rattle.archive_shape_layout.proofs.Found.{root_is_found}
 use Rattle.archive_forms_values.specs.Parts.{HasValue}
-use Rattle.archive_core_validation.proofs.Rooted.{root_held}
-use Rattle.cabinet_text_nodes.specs.TextGrammar.Tree.{Tree, Leaf, IsLeaf}
-use Rattle.cabinet_text_nodes.specs.TextGrammar.Path.{Step, enters}
-use Rattle.cabinet_text_nodes.specs.TextGrammar.Line.{set}
-use Rattle.cabinet_text_nodes.specs.TextGrammar.Answering.{Answer, head, keys_are, wrong, missing, done, refused, bad, answer, change, if_there, outcome_there, outcome_at}
-use Rattle.cabinet_archived.specs.Documents.Node.{node_shape, node_names, KnowsNode}
-use Rattle.cabinet_archived.specs.Documents.Accepted.{Accepted}
-use Rattle.cabinet_archived.specs.Documents.Image.{Image}
-use Rattle.cabinet_archived.proofs.Documents.NodeWalks.{behind_walk}
-use Rattle.cabinet_archived.proofs.Documents.Sound.{no_faults}
+use Rattle.archive_forms_values.proofs.Rooted.{root_held}
+use Rattle.cabinet_text_grammar.specs.Tree.{Tree, Leaf, IsLeaf}
+use Rattle.cabinet_text_grammar.specs.Path.{Step, enters}
+use Rattle.cabinet_text_grammar.specs.Line.{set}
+use Rattle.cabinet_text_grammar.specs.Answering.{Answer, head, keys_are, wrong, missing, done, refused, bad, answer, change, if_there, outcome_there, outcome_at}
+use Rattle.cabinet_documents.specs.Node.{node_shape, node_names, KnowsNode}
+use Rattle.cabinet_documents.specs.Accepted.{Accepted}
+use Rattle.cabinet_documents.specs.Image.{Image}
+use Rattle.cabinet_documents.proofs.NodeWalks.{behind_walk}
+use Rattle.cabinet_documents.proofs.Sound.{no_faults}
 use Rattle.cabinet_archives.specs.Sound.{HasSoundWalk, IsSoundPart}
 use Rattle.cabinet_archives.specs.Found.{OfDocument, Reaches, ReachesNone}
 use Rattle.cabinet_archives.specs.Setting.{EditLeaves}

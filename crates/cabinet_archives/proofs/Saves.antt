@@ -1,26 +1,26 @@
 -- A document whose archive is made in memory, and written whole or in part.
 use Rattle.std.proofs.Common.{◌≡◌, ℕ, Result, ◌+◌, ◌<◌, ◌≤◌, false, Ok, Err, List, [], ◌++◌, length, append-nil, ⊎_elim, inl, refl, sym, ap, subst, ◌∙◌, arith}
 use Rattle.std.specs.Prelude.{IsTrue}
-use Rattle.archive_shape_writing.specs.declared.error.Error.{Error}
-use Rattle.archive_shape_writing.specs.declared.error.Error.TheVariants.{OutOfMemory}
-use Rattle.archive_shape_writing.specs.Writing.{WriterMembers, Cut, IsCounted}
-use Rattle.archive_forms_values.specs.FormsLaws.State.{initial}
-use Rattle.archive_forms_values.specs.FormsLaws.Pointers.{box_spelling}
-use Rattle.archive_forms_values.specs.FormsLaws.Serializing.{IsAt, Serializes}
-use Rattle.cabinet_text_nodes.specs.TextGrammar.Tree.{Tree}
-use Rattle.cabinet_text_nodes.specs.TextGrammar.Wholes.{wholes_of, IsNumbered, IsTable, IsDocument}
-use Rattle.archive_shape.specs.ShapeLayout.Holds.{root_position}
-use Rattle.archive_core_validation.proofs.Rooted.{root_held}
-use Rattle.cabinet_archived.specs.Documents.Node.{node_shape, node_names, KnowsNode}
-use Rattle.cabinet_archived.specs.Documents.Image.{Image}
-use Rattle.cabinet_archived.specs.Documents.Spelling.{node_spelling, node_value}
-use Rattle.cabinet_archived.specs.Documents.SpellingLaws.{archive_of, ArchiveFits, ArchiveRefused}
-use Rattle.cabinet_archived.proofs.Documents.Imaged.{one_image_law}
-use Rattle.cabinet_archived.proofs.Documents.SpellingDenoted.{value_denotes_law}
-use Rattle.cabinet_archived.proofs.Documents.StoredNodes.{refused_is_past_law}
+use Rattle.archive_shape_layout.specs.declared.error.Error.{Error}
+use Rattle.archive_shape_layout.specs.declared.error.Error.TheVariants.{OutOfMemory}
+use Rattle.archive_shape_layout.specs.Writing.{WriterMembers, Cut, IsCounted}
+use Rattle.archive_forms_laws.specs.State.{initial}
+use Rattle.archive_forms_laws.specs.Pointers.{box_spelling}
+use Rattle.archive_forms_laws.specs.Serializing.{IsAt, Serializes}
+use Rattle.cabinet_text_grammar.specs.Tree.{Tree}
+use Rattle.cabinet_text_grammar.specs.Wholes.{wholes_of, IsNumbered, IsTable, IsDocument}
+use Rattle.archive_shape_layout.specs.Holds.{root_position}
+use Rattle.archive_forms_values.proofs.Rooted.{root_held}
+use Rattle.cabinet_documents.specs.Node.{node_shape, node_names, KnowsNode}
+use Rattle.cabinet_documents.specs.Image.{Image}
+use Rattle.cabinet_documents.specs.Spelling.{node_spelling, node_value}
+use Rattle.cabinet_documents.specs.SpellingLaws.{archive_of, ArchiveFits, ArchiveRefused}
+use Rattle.cabinet_documents.proofs.Imaged.{one_image_law}
+use Rattle.cabinet_documents.proofs.SpellingDenoted.{value_denotes_law}
+use Rattle.cabinet_documents.proofs.StoredNodes.{refused_is_past_law}
 use Rattle.cabinet_archived.specs.Archived.{archived_in, table_in}
 use Rattle.cabinet_archived.specs.declared.node_in.NodeIn.{NodeIn}
-use Rattle.cabinet_text_nodes.proofs.TextGrammar.Tables.{document_table, document_numbered}
+use Rattle.cabinet_text_grammar.proofs.Tables.{document_table, document_numbered}
 use Rattle.cabinet_text_nodes.specs.View.{node_tree}
 use Rattle.cabinet_archives.specs.declared.saving.saving.SaveRefusal.{SaveRefusal}
 use Rattle.cabinet_archives.specs.declared.saving.saving.SaveRefusal.TheVariants as refusal

@@ -2,8 +2,8 @@
 use Rattle.std.proofs.Common.{◌≡◌, ℕ, zero, suc, ◌+◌, ◌-◌, ◌*◌, ◌%◌, ◌<◌, ◌≤◌, ◌==◌, ◌&&◌, Bool, true, false, cond, List, [], ◌∷◌, ◌++◌, length, map, filter, nat_lt, slice_index, Option, Some, None, refl, sym, ap, subst, ◌∙◌, arith, eqb-true, eq-eqb, lt-ltb}
 use Rattle.std.specs.List.{All, find, flat_map, range_with_len}
 use Rattle.std.proofs.lemmas.List.Elements.{All-nil, All-cons, All-head, All-tail}
-use Rattle.archive_hash_probing.specs.ShapeCanonical.Strides.{sixteens, strides, places_shown}
-use Rattle.archive_hash_probing.specs.ShapeCanonical.Reach.{searched, reach}
+use Rattle.archive_shape_canonical.specs.Strides.{sixteens, strides, places_shown}
+use Rattle.archive_shape_canonical.specs.Reach.{searched, reach}
 use Rattle.archive_hash_probing.specs.Search.{IsRefused, IsAnswer}
 use Rattle.archive_hash_probing.proofs.Findable.{same_control, All-searched, All-middle, strides_within, found_place}
 use Rattle.archive_hash_probing.proofs.Wrapping.{Wraps}

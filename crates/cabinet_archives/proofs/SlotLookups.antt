@@ -4,24 +4,24 @@ use Rattle.std.specs.List.{Contains, find, flat_map, range_with_len, slice_get}
 use Rattle.std.specs.Option.{option_map}
 use Rattle.std.proofs.lemmas.Map.Text.{is_eq-slice_cmp}
 use Rattle.std.proofs.lemmas.Slice.Eq.{bytes_eq-Decides}
-use Rattle.archive_shape.specs.ShapeLayout.Shape.{Shape}
-use Rattle.archive_hash_probing.specs.ShapeCanonical.FirstFit.{hash_tag}
-use Rattle.archive_hash_probing.specs.ShapeCanonical.Hash.{text_hash}
-use Rattle.archive_hash_probing.specs.ShapeCanonical.Strides.{places_shown, strides}
-use Rattle.archive_hash_probing.specs.ShapeCanonical.Reach.{reach, searched}
+use Rattle.archive_shape_layout.specs.Shape.{Shape}
+use Rattle.archive_shape_canonical.specs.FirstFit.{hash_tag}
+use Rattle.archive_shape_canonical.specs.Hash.{text_hash}
+use Rattle.archive_shape_canonical.specs.Strides.{places_shown, strides}
+use Rattle.archive_shape_canonical.specs.Reach.{reach, searched}
 use Rattle.archive_hash_probing.specs.Controls.{AreControls}
 use Rattle.archive_hash_probing.specs.Search.{IsLookup}
 use Rattle.archive_hash_probing.proofs.Counts.{counted_to}
 use Rattle.archive_hash_probing.proofs.Wrapping.{wraps_of, count_of}
-use Rattle.archive_hash_walking.specs.Tables.{Buckets, full_places, item_position, IsTableAt}
-use Rattle.archive_hash_walking.specs.Tables.IsTableAt.{has_none, has_buckets}
-use Rattle.archive_hash_walking.specs.Places.{LooksUp}
-use Rattle.archive_hash_walking.specs.Places.LooksUp.{has_no_places, has_places}
-use Rattle.archive_hash_walking.proofs.Found.{none_looked_up}
-use Rattle.archive_hash_walking.proofs.Lookups.{no_strides}
-use Rattle.cabinet_archived.specs.Documents.Order.{is_same}
-use Rattle.cabinet_archived.specs.Documents.Table.{Slot, Entry, Table, Findable, answers, found, gives, has_key, is_numbered, slot_at, tag_of}
-use Rattle.cabinet_archived.proofs.Documents.Found.{found_passes, look_up_gives}
+use Rattle.archive_hash_maps.specs.Tables.{Buckets, full_places, item_position, IsTableAt}
+use Rattle.archive_hash_maps.specs.Tables.IsTableAt.{has_none, has_buckets}
+use Rattle.archive_hash_maps.specs.Places.{LooksUp}
+use Rattle.archive_hash_maps.specs.Places.LooksUp.{has_no_places, has_places}
+use Rattle.archive_hash_maps.proofs.Found.{none_looked_up}
+use Rattle.archive_hash_maps.proofs.Lookups.{no_strides}
+use Rattle.cabinet_documents.specs.Order.{is_same}
+use Rattle.cabinet_documents.specs.Table.{Slot, Entry, Table, Findable, answers, found, gives, has_key, is_numbered, slot_at, tag_of}
+use Rattle.cabinet_documents.proofs.Found.{found_passes, look_up_gives}
 use Rattle.cabinet_archives.specs.Cost.{strides_to}
 use Rattle.cabinet_archives.proofs.Searched.{found_first}
 use Rattle.cabinet_archives.proofs.Tables.{slot_of, slots_of, slot_there}

@@ -1,17 +1,17 @@
 -- What lies in a part whose walk has no fault has none either.
 use Rattle.std.proofs.Common.{◌≡◌, ◌∙◌, ℕ, zero, suc, ◌+◌, ◌*◌, ◌<◌, List, [], ◌∷◌, ◌++◌, get_or, nat_lt, refl, sym}
 use Rattle.std.specs.List.{flat_map}
-use Rattle.archive_shape.specs.ShapeLayout.Shape.{Shape, size_of}
-use Rattle.archive_shape.specs.ShapeLayout.Shape.Shape.{option, vector}
-use Rattle.archive_shape.specs.ShapeLayout.Content.{Names, Part}
-use Rattle.archive_shape.specs.ShapeLayout.Content.Part.{at}
+use Rattle.archive_shape_layout.specs.Shape.{Shape, size_of}
+use Rattle.archive_shape_layout.specs.Shape.Shape.{option, vector}
+use Rattle.archive_shape_layout.specs.Content.{Names, Part}
+use Rattle.archive_shape_layout.specs.Content.Part.{at}
 use Rattle.archive_forms_values.specs.Parts.{HasValue, PointsTo, IsSomeAt, IsVecAt}
-use Rattle.cabinet_archived.specs.Documents.Node.{node_shape, node_names, KnowsNode}
-use Rattle.cabinet_archived.specs.Documents.Walk.{Stop}
-use Rattle.cabinet_archived.specs.Documents.Audit.{too_deep, unless, faults}
+use Rattle.cabinet_documents.specs.Node.{node_shape, node_names, KnowsNode}
+use Rattle.cabinet_documents.specs.Walk.{Stop}
+use Rattle.cabinet_documents.specs.Audit.{too_deep, unless, faults}
 use Rattle.cabinet_archived.specs.Kind.{IsTagged}
-use Rattle.cabinet_archived.proofs.Documents.NodeWalks.{element_walk}
-use Rattle.cabinet_archived.proofs.Documents.Places.{option_here, list_here, part_of, whole_here}
+use Rattle.cabinet_documents.proofs.NodeWalks.{element_walk}
+use Rattle.cabinet_documents.proofs.Places.{option_here, list_here, part_of, whole_here}
 use Rattle.cabinet_archives.specs.Sound.{HasSoundWalk}
 use Rattle.cabinet_archives.proofs.Tags.{tag_is}
 use Rattle.cabinet_archives.proofs.Walked.{Boxed, Inner, payload_place, payload_in, some_in, vector_in, whole_in}

@@ -1,41 +1,41 @@
 -- From a node to its payload, and from there to the nodes in it, at the positions that the bytes give.
 use Rattle.std.proofs.Common.{◌≡◌, ℕ, zero, suc, ◌+◌, ◌*◌, ◌<◌, Bool, true, false, nat_lt, List, [], ◌∷◌, slice_index, length, Option, Some, None, refl, sym, ap, subst, ◌∙◌, arith, ◌==◌, ◌||◌, nat_le, eqb-true, true≢false}
 use Rattle.std.proofs.lemmas.Bool.{ltb-true}
-use Rattle.archive_shape.specs.ShapeLayout.Bytes.{window, word_at, target_from, align_up}
-use Rattle.archive_shape.specs.ShapeLayout.Shape.{Shape, align_of}
-use Rattle.archive_shape.specs.ShapeLayout.Shape.Alignment.{eight}
-use Rattle.archive_shape.specs.ShapeLayout.Shape.Shape.{text, option, choice, box, vector}
-use Rattle.archive_shape.specs.ShapeLayout.Shape.Pointee.{sized, slice, str}
-use Rattle.archive_shape.specs.ShapeLayout.Value.{Value, Values}
-use Rattle.archive_shape.specs.ShapeLayout.Value.Value.{string, group}
-use Rattle.archive_shape.specs.ShapeLayout.Value.Values.{no_values, more_values}
-use Rattle.archive_shape.specs.ShapeLayout.Content.{Part, content_of, choose, made, elements, shape_content, text_content, shape_tagged, IsInline, text_length}
-use Rattle.archive_shape.specs.ShapeLayout.Content.Part.{at, behind}
-use Rattle.archive_shape.specs.ShapeLayout.Content.Label.{same, tagged, written}
-use Rattle.archive_shape.specs.ShapeLayout.Content.Content.{illegal, plain}
-use Rattle.archive_shape.specs.ShapeLayout.Holds.{Region, Visit, OpenShared, Holds, HoldAll}
-use Rattle.archive_shape.specs.ShapeLayout.Holds.HoldAll.{holds_none, holds_more}
-use Rattle.archive_shape.specs.ShapeLayout.Path.{Stands, StandsIn, value_in}
-use Rattle.archive_shape.specs.ShapeLayout.Path.Stands.{stands_claimed}
-use Rattle.archive_shape.specs.ShapeLayout.Path.StandsIn.{stands_first, stands_later}
-use Rattle.archive_shape.proofs.ShapeLayout.Unique.{by_plain, by_claimed}
+use Rattle.archive_shape_layout.specs.Bytes.{window, word_at, target_from, align_up}
+use Rattle.archive_shape_layout.specs.Shape.{Shape, align_of}
+use Rattle.archive_shape_layout.specs.Shape.Alignment.{eight}
+use Rattle.archive_shape_layout.specs.Shape.Shape.{text, option, choice, box, vector}
+use Rattle.archive_shape_layout.specs.Shape.Pointee.{sized, slice, str}
+use Rattle.archive_shape_layout.specs.Value.{Value, Values}
+use Rattle.archive_shape_layout.specs.Value.Value.{string, group}
+use Rattle.archive_shape_layout.specs.Value.Values.{no_values, more_values}
+use Rattle.archive_shape_layout.specs.Content.{Part, content_of, choose, made, elements, shape_content, text_content, shape_tagged, IsInline, text_length}
+use Rattle.archive_shape_layout.specs.Content.Part.{at, behind}
+use Rattle.archive_shape_layout.specs.Content.Label.{same, tagged, written}
+use Rattle.archive_shape_layout.specs.Content.Content.{illegal, plain}
+use Rattle.archive_shape_layout.specs.Holds.{Region, Visit, OpenShared, Holds, HoldAll}
+use Rattle.archive_shape_layout.specs.Holds.HoldAll.{holds_none, holds_more}
+use Rattle.archive_shape_layout.specs.Path.{Stands, StandsIn, value_in}
+use Rattle.archive_shape_layout.specs.Path.Stands.{stands_claimed}
+use Rattle.archive_shape_layout.specs.Path.StandsIn.{stands_first, stands_later}
+use Rattle.archive_shape_layout.proofs.Unique.{by_plain, by_claimed}
 use Rattle.archive_shape.proofs.Inverted.{IsKnown, held_is_known}
 use Rattle.archive_shape.proofs.Questions.{tested_known, followed_known}
-use Rattle.archive_forms_values.specs.FormsLaws.Text.{own_bytes, LiesAt}
-use Rattle.archive_forms_values.specs.FormsLaws.Text.LiesAt.{inline, out_of_line}
-use Rattle.archive_forms_values.proofs.FormsLaws.Held.{text_behind}
-use Rattle.archive_forms_values.proofs.FormsLaws.Named.{named_is}
-use Rattle.archive_forms_values.proofs.FormsLaws.TextContent.{followed, chosen_no, inline_is, far_is}
+use Rattle.archive_forms_laws.specs.Text.{own_bytes, LiesAt}
+use Rattle.archive_forms_laws.specs.Text.LiesAt.{inline, out_of_line}
+use Rattle.archive_forms_laws.proofs.Held.{text_behind}
+use Rattle.archive_forms_laws.proofs.Named.{named_is}
+use Rattle.archive_forms_laws.proofs.TextContent.{followed, chosen_no, inline_is, far_is}
 use Rattle.archive_forms_values.proofs.Contents.{slice_is}
 use Rattle.archive_forms_values.proofs.Tagged.{own_tag, none_is, some_is, choice_tag, choice_is}
 use Rattle.archive_forms_values.proofs.Targets.{first_word}
 use Rattle.archive_forms_values.specs.Parts.{PointsTo}
 use Rattle.archive_forms_values.proofs.Inside.{none_held}
 use Rattle.archive_forms_values.proofs.Pointed.{made_whole}
-use Rattle.cabinet_archived.specs.Documents.Node.{node_names, node_shape, payloads}
-use Rattle.cabinet_archived.specs.Documents.Denotes.{tagged_value}
-use Rattle.cabinet_archived.proofs.Documents.Nodes.{none_illegal}
-use Rattle.cabinet_archived.proofs.Documents.Steps.{Through, plain_below, same_below, joined, behind_below}
+use Rattle.cabinet_documents.specs.Node.{node_names, node_shape, payloads}
+use Rattle.cabinet_documents.specs.Denotes.{tagged_value}
+use Rattle.cabinet_documents.proofs.Nodes.{none_illegal}
+use Rattle.cabinet_documents.proofs.Steps.{Through, plain_below, same_below, joined, behind_below}
 
 module _ (bytes : List ℕ) where
   -- ---- a node's payload

@@ -1,22 +1,22 @@
 -- What a node is, and what one step from it leads to, by its value.
 use Rattle.std.proofs.Common.{◌≡◌, ℕ, zero, suc, ◌<◌, ◌≤◌, List, [], ◌∷◌, ◌++◌, Option, Some, None, refl, sym, ap, subst, ◌∙◌, arith, ◌⊎◌, inl, inr}
-use Rattle.archive_shape.specs.ShapeLayout.Value.{Value, Values, count_values}
-use Rattle.archive_shape.specs.ShapeLayout.Value.Value.{string, group, chosen, counted}
-use Rattle.archive_shape.specs.ShapeLayout.Value.Values.{no_values}
-use Rattle.archive_shape.specs.ShapeLayout.Content.{members}
-use Rattle.archive_shape.specs.ShapeLayout.Path.{value_in}
-use Rattle.cabinet_text_nodes.specs.TextGrammar.Keys.{MapKind, ordered, hashed, kept}
-use Rattle.cabinet_text_nodes.specs.TextGrammar.Tree.{Leaf, truth, number, text}
-use Rattle.cabinet_text_nodes.specs.TextGrammar.Tree.{Tree, leaf, shared, nothing, just, list, map, whole, Trees, Pairs}
-use Rattle.cabinet_text_nodes.specs.TextGrammar.Path.{Step, key, place, inside, node_at, node_in, node_by}
-use Rattle.cabinet_archived.specs.Documents.Denotes.{Denotes, DenoteAll, DenotePairs, tagged_value, pair_value}
-use Rattle.cabinet_archived.specs.Documents.Denotes.Denotes.{denotes_truth, denotes_number, denotes_text, denotes_shared, denotes_nothing, denotes_some, denotes_list, denotes_ordered, denotes_hashed, denotes_kept, denotes_whole}
-use Rattle.cabinet_archived.specs.Documents.Denotes.DenoteAll.{denote_none, denote_more}
-use Rattle.cabinet_archived.specs.Documents.Denotes.DenotePairs.{denote_no_pairs, denote_pair}
-use Rattle.cabinet_archived.specs.Documents.Laws.{payload_of}
-use Rattle.cabinet_archived.specs.Documents.Order.{arranged}
-use Rattle.cabinet_archived.proofs.Documents.ByKey.{in_order, node_in_order, node_here, node_past, keys_same, keys_differ}
-use Rattle.cabinet_archived.proofs.Documents.Changing.{of_some, of_list, of_whole}
+use Rattle.archive_shape_layout.specs.Value.{Value, Values, count_values}
+use Rattle.archive_shape_layout.specs.Value.Value.{string, group, chosen, counted}
+use Rattle.archive_shape_layout.specs.Value.Values.{no_values}
+use Rattle.archive_shape_layout.specs.Content.{members}
+use Rattle.archive_shape_layout.specs.Path.{value_in}
+use Rattle.cabinet_text_grammar.specs.Keys.{MapKind, ordered, hashed, kept}
+use Rattle.cabinet_text_grammar.specs.Tree.{Leaf, truth, number, text}
+use Rattle.cabinet_text_grammar.specs.Tree.{Tree, leaf, shared, nothing, just, list, map, whole, Trees, Pairs}
+use Rattle.cabinet_text_grammar.specs.Path.{Step, key, place, inside, node_at, node_in, node_by}
+use Rattle.cabinet_documents.specs.Denotes.{Denotes, DenoteAll, DenotePairs, tagged_value, pair_value}
+use Rattle.cabinet_documents.specs.Denotes.Denotes.{denotes_truth, denotes_number, denotes_text, denotes_shared, denotes_nothing, denotes_some, denotes_list, denotes_ordered, denotes_hashed, denotes_kept, denotes_whole}
+use Rattle.cabinet_documents.specs.Denotes.DenoteAll.{denote_none, denote_more}
+use Rattle.cabinet_documents.specs.Denotes.DenotePairs.{denote_no_pairs, denote_pair}
+use Rattle.cabinet_documents.specs.Laws.{payload_of}
+use Rattle.cabinet_documents.specs.Order.{arranged}
+use Rattle.cabinet_documents.proofs.ByKey.{in_order, node_in_order, node_here, node_past, keys_same, keys_differ}
+use Rattle.cabinet_documents.proofs.Changing.{of_some, of_list, of_whole}
 use Rattle.cabinet_text_nodes.proofs.Paths.{then_at, first_step}
 
 -- ---- paths, one after the other

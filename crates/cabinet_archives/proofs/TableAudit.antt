@@ -1,22 +1,22 @@
 -- The faults of a hashed map's table that are left, place by place.
 use Rattle.std.proofs.Common.{[], ◌≡◌, ℕ, ◌*◌, ◌^◌, ◌<◌, ◌≤◌, ◌==◌, Bool, Bor, false, true, List, ◌∷◌, ◌++◌, map, slice_index, Option, MatchOption, Result, Ok, Err, sym, ap, subst, ◌∙◌, arith, zero-mul}
 use Rattle.std.specs.List.{flat_map}
-use Rattle.archive_shape.specs.ShapeLayout.Shape.{Shape, size_of}
-use Rattle.archive_shape.specs.ShapeLayout.Content.Part.{at}
-use Rattle.archive_shape.specs.ShapeLayout.Value.{Value}
-use Rattle.archive_forms_values.specs.FormsLaws.Text.{IsText}
+use Rattle.archive_shape_layout.specs.Shape.{Shape, size_of}
+use Rattle.archive_shape_layout.specs.Content.Part.{at}
+use Rattle.archive_shape_layout.specs.Value.{Value}
+use Rattle.archive_forms_laws.specs.Text.{IsText}
 use Rattle.archive_forms_values.specs.Parts.{HasValue}
-use Rattle.archive_hash_probing.specs.ShapeCanonical.FirstFit.{hash_tag}
-use Rattle.archive_hash_probing.specs.ShapeCanonical.Hash.{text_hash}
-use Rattle.archive_hash_walking.specs.Tables.{Buckets, full_places, IsTableAt}
-use Rattle.archive_hash_walking.specs.Tables.IsTableAt.{has_none, has_buckets}
-use Rattle.archive_hash_walking.specs.Places.{LooksUp}
-use Rattle.archive_hash_walking.proofs.Roots.{places_of_value}
-use Rattle.cabinet_archived.specs.Documents.Node.{node_names, pair_shape}
-use Rattle.cabinet_archived.specs.Documents.Audit as audit
-use Rattle.cabinet_archived.specs.Documents.Audit.{unless, tag_faults, search_faults, hashed_faults}
-use Rattle.cabinet_archived.specs.Documents.Table.{entry_of, found, gives, hashed_at, table_of}
-use Rattle.cabinet_archived.specs.Documents.Walk.{Stop, Walks}
+use Rattle.archive_shape_canonical.specs.FirstFit.{hash_tag}
+use Rattle.archive_shape_canonical.specs.Hash.{text_hash}
+use Rattle.archive_hash_maps.specs.Tables.{Buckets, full_places, IsTableAt}
+use Rattle.archive_hash_maps.specs.Tables.IsTableAt.{has_none, has_buckets}
+use Rattle.archive_hash_maps.specs.Places.{LooksUp}
+use Rattle.archive_hash_maps.proofs.Roots.{places_of_value}
+use Rattle.cabinet_documents.specs.Node.{node_names, pair_shape}
+use Rattle.cabinet_documents.specs.Audit as audit
+use Rattle.cabinet_documents.specs.Audit.{unless, tag_faults, search_faults, hashed_faults}
+use Rattle.cabinet_documents.specs.Table.{entry_of, found, gives, hashed_at, table_of}
+use Rattle.cabinet_documents.specs.Walk.{Stop, Walks}
 use Rattle.cabinet_archives.specs.declared.opening.refusal.OpenRefusal.{OpenRefusal}
 use Rattle.cabinet_archives.specs.Hashed.{table_shape}
 use Rattle.cabinet_archives.specs.Keyed.{SaysKey, knows_pairs}

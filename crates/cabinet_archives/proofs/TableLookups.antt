@@ -2,17 +2,17 @@
 use Rattle.std.proofs.Common.{◌≡◌, ℕ, zero, suc, ◌+◌, ◌-◌, ◌*◌, ◌<◌, ◌≤◌, ◌==◌, Bool, true, false, List, [], ◌∷◌, map, Option, Some, None, MatchOption, refl, sym, ap, subst, ◌∙◌, arith, eqb-true, eq-eqb}
 use Rattle.std.specs.List.{Contains, slice_get}
 use Rattle.std.specs.Option.{option_map}
-use Rattle.archive_shape.specs.ShapeLayout.Bytes.{align_up}
-use Rattle.archive_shape.specs.ShapeLayout.Shape.{size_of}
-use Rattle.archive_hash_probing.specs.ShapeCanonical.FirstFit.{hash_tag}
-use Rattle.archive_hash_probing.specs.ShapeCanonical.Hash.{text_hash}
-use Rattle.archive_hash_probing.specs.ShapeCanonical.Reach.{searched}
-use Rattle.archive_hash_probing.specs.ShapeCanonical.Strides.{strides}
-use Rattle.archive_hash_walking.specs.Tables.{Buckets, full_places, item_position, IsTableAt}
-use Rattle.archive_hash_walking.specs.Places.{LooksUp}
-use Rattle.cabinet_archived.specs.Documents.Node.{pair_shape}
-use Rattle.cabinet_archived.specs.Documents.Order.{is_same}
-use Rattle.cabinet_archived.specs.Documents.Table.{Slot, Table, Findable, entry_of, found, gives, is_numbered}
+use Rattle.archive_shape_layout.specs.Bytes.{align_up}
+use Rattle.archive_shape_layout.specs.Shape.{size_of}
+use Rattle.archive_shape_canonical.specs.FirstFit.{hash_tag}
+use Rattle.archive_shape_canonical.specs.Hash.{text_hash}
+use Rattle.archive_shape_canonical.specs.Reach.{searched}
+use Rattle.archive_shape_canonical.specs.Strides.{strides}
+use Rattle.archive_hash_maps.specs.Tables.{Buckets, full_places, item_position, IsTableAt}
+use Rattle.archive_hash_maps.specs.Places.{LooksUp}
+use Rattle.cabinet_documents.specs.Node.{pair_shape}
+use Rattle.cabinet_documents.specs.Order.{is_same}
+use Rattle.cabinet_documents.specs.Table.{Slot, Table, Findable, entry_of, found, gives, is_numbered}
 use Rattle.cabinet_archives.specs.Cost.{strides_to}
 use Rattle.cabinet_archives.specs.Keyed.{SaysKey}
 use Rattle.cabinet_archives.proofs.SlotLookups as slots

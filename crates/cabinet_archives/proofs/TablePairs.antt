@@ -1,19 +1,19 @@
 -- The pairs of a hashed map's table, in a walk of the map: by ascending place, and beside the table's faults.
 use Rattle.std.proofs.Common.{◌≡◌, ℕ, ◌+◌, ◌≤◌, List, [], ◌∷◌, length, take, map, refl, sym, ap, subst, ◌∙◌}
-use Rattle.archive_shape.specs.ShapeLayout.Bytes.{window, word_at}
-use Rattle.archive_shape.specs.ShapeLayout.Shape.Shape.{text}
-use Rattle.archive_shape.specs.ShapeLayout.Value.{Value}
-use Rattle.archive_shape.specs.ShapeLayout.Content.{members, control_count}
-use Rattle.archive_shape.specs.ShapeLayout.Content.Part.{at}
-use Rattle.archive_hash_walking.specs.Tables.{Buckets, full_places, item_position, item_positions, IsTableAt}
-use Rattle.archive_hash_walking.specs.Tables.IsTableAt.{has_none, has_buckets}
-use Rattle.cabinet_archived.specs.Documents.Node.{node_names, node_shape, pair_shape}
-use Rattle.cabinet_archived.specs.Documents.Walk.{Stop, Walks}
-use Rattle.cabinet_archived.specs.Documents.Audit.{hashed_faults}
-use Rattle.cabinet_archived.specs.Documents.Table.{hashed_at, table_of}
-use Rattle.cabinet_archived.proofs.Documents.TreeWalks.{ItemsWalk, text_quiet}
-use Rattle.cabinet_archived.proofs.Documents.TableSound.{no_table}
-use Rattle.cabinet_archived.proofs.Documents.TableWalks.{item_place, item_places, controls_at, table_walked, empty_table_walked}
+use Rattle.archive_shape_layout.specs.Bytes.{window, word_at}
+use Rattle.archive_shape_layout.specs.Shape.Shape.{text}
+use Rattle.archive_shape_layout.specs.Value.{Value}
+use Rattle.archive_shape_layout.specs.Content.{members, control_count}
+use Rattle.archive_shape_layout.specs.Content.Part.{at}
+use Rattle.archive_hash_maps.specs.Tables.{Buckets, full_places, item_position, item_positions, IsTableAt}
+use Rattle.archive_hash_maps.specs.Tables.IsTableAt.{has_none, has_buckets}
+use Rattle.cabinet_documents.specs.Node.{node_names, node_shape, pair_shape}
+use Rattle.cabinet_documents.specs.Walk.{Stop, Walks}
+use Rattle.cabinet_documents.specs.Audit.{hashed_faults}
+use Rattle.cabinet_documents.specs.Table.{hashed_at, table_of}
+use Rattle.cabinet_documents.proofs.TreeWalks.{ItemsWalk, text_quiet}
+use Rattle.cabinet_documents.proofs.TableSound.{no_table}
+use Rattle.cabinet_documents.proofs.TableWalks.{item_place, item_places, controls_at, table_walked, empty_table_walked}
 use Rattle.cabinet_archives.specs.Hashed.{table_shape}
 use Rattle.cabinet_archives.specs.Sound.{HasSoundWalk}
 use Rattle.cabinet_archives.proofs.Pairs.{PairsIn, pair_entry, pairs_keys, own_quiet, no_pairs, pair_here}

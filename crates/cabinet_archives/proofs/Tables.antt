@@ -2,17 +2,17 @@
 use Rattle.std.proofs.Common.{◌≡◌, ℕ, zero, suc, ◌+◌, ◌<◌, ◌≤◌, ◌==◌, Bool, true, false, cond, List, [], ◌∷◌, length, map, filter, take, drop, drop-cons, nat_lt, slice_index, Some, refl, sym, ap, ◌∙◌, arith, eqb-true, eq-eqb, lt-ltb}
 use Rattle.std.specs.Prelude.{slice_index_or}
 use Rattle.std.specs.List.{range_with_len}
-use Rattle.archive_shape.specs.ShapeLayout.Bytes.{word_at}
-use Rattle.archive_shape.specs.ShapeLayout.Shape.{Shape}
-use Rattle.archive_shape.specs.ShapeLayout.Value.{Value}
-use Rattle.archive_shape.specs.ShapeLayout.Content.{members}
-use Rattle.archive_forms_values.specs.FormsLaws.Sample.{number_shape}
+use Rattle.archive_shape_layout.specs.Bytes.{word_at}
+use Rattle.archive_shape_layout.specs.Shape.{Shape}
+use Rattle.archive_shape_layout.specs.Value.{Value}
+use Rattle.archive_shape_layout.specs.Content.{members}
+use Rattle.archive_forms_laws.specs.Sample.{number_shape}
 use Rattle.archive_hash_probing.specs.Controls.{AreControls}
 use Rattle.archive_hash_probing.proofs.Wrapping.{count_is}
-use Rattle.archive_hash_walking.specs.Tables.{Buckets, full_places, item_position, item_positions, IsTableAt}
-use Rattle.archive_hash_walking.specs.Tables.IsTableAt.{has_none, has_buckets}
-use Rattle.cabinet_archived.specs.Documents.Table.{Slot, Table, entry_of, full_from, hashed_slots, hashed_at, kept_at, kept_slot, numbered, slot_at, table_of, item_keys}
-use Rattle.cabinet_archived.proofs.Documents.TableSound.{no_table, led_table}
+use Rattle.archive_hash_maps.specs.Tables.{Buckets, full_places, item_position, item_positions, IsTableAt}
+use Rattle.archive_hash_maps.specs.Tables.IsTableAt.{has_none, has_buckets}
+use Rattle.cabinet_documents.specs.Table.{Slot, Table, entry_of, full_from, hashed_slots, hashed_at, kept_at, kept_slot, numbered, slot_at, table_of, item_keys}
+use Rattle.cabinet_documents.proofs.TableSound.{no_table, led_table}
 
 -- ---- full places
 

@@ -2,15 +2,15 @@
 use Rattle.std.proofs.Common.{◌≡◌, ◌∙◌, ℕ, zero, suc, ◌+◌, ◌<◌, ◌≤◌, ◌↔◌, IsTrue, Bor, List, slice_index, refl, sym, ap, subst, arith}
 use Rattle.std.specs.Prelude.{true, false, ⊤}
 use Rattle.std.specs.Int.{w64}
-use Rattle.archive_shape.specs.ShapeLayout.Shape.{Shape}
-use Rattle.archive_shape.specs.ShapeLayout.Shape.Shape.{number, truth, text, shared, option, box, vector}
-use Rattle.archive_shape.specs.ShapeLayout.Shape.Pointee.{sized, str}
-use Rattle.archive_shape.specs.ShapeLayout.Value.{Value}
-use Rattle.archive_shape.specs.ShapeLayout.Content.{Names}
+use Rattle.archive_shape_layout.specs.Shape.{Shape}
+use Rattle.archive_shape_layout.specs.Shape.Shape.{number, truth, text, shared, option, box, vector}
+use Rattle.archive_shape_layout.specs.Shape.Pointee.{sized, str}
+use Rattle.archive_shape_layout.specs.Value.{Value}
+use Rattle.archive_shape_layout.specs.Content.{Names}
 use Rattle.archive_forms_values.specs.Parts.{HasValue}
-use Rattle.archive_forms_values.proofs.FormsLaws.Levels.{option_box_sized}
-use Rattle.cabinet_archived.specs.Documents.Node.{node_shape, KnowsNode, whole_shape}
-use Rattle.cabinet_archived.specs.Documents.Denotes.{tagged_value}
+use Rattle.archive_forms_laws.proofs.Levels.{option_box_sized}
+use Rattle.cabinet_documents.specs.Node.{node_shape, KnowsNode, whole_shape}
+use Rattle.cabinet_documents.specs.Denotes.{tagged_value}
 use Rattle.cabinet_archived.specs.Kind.{IsTagged, IsKindAt}
 use Rattle.cabinet_archived.specs.declared.kind.ArchivedKind.{ArchivedKind}
 use Rattle.cabinet_archived.proofs.Nodes.{tagged_at, is_whole}

@@ -2,30 +2,30 @@
 use Rattle.std.proofs.Common.{◌≡◌, ℕ, Bool, true, false, IsTrue, List, [], ◌∷◌, length, drop, slice_index, nat_lt, Option, Some, None, map, refl, sym, ap, ◌∙◌}
 use Rattle.std.specs.Prelude.{⊤, All}
 use Rattle.std.proofs.lemmas.List.Elements.{All-nil, All-cons}
-use Rattle.archive_shape.specs.ShapeLayout.Bytes.{window, word_at, target_from}
-use Rattle.archive_shape.specs.ShapeLayout.Shape.{Shape}
-use Rattle.archive_shape.specs.ShapeLayout.Shape.Shape.{text}
-use Rattle.archive_shape.specs.ShapeLayout.Shape.Pointee.{str}
-use Rattle.archive_shape.specs.ShapeLayout.Value.{Value, Values}
-use Rattle.archive_shape.specs.ShapeLayout.Value.Value.{string, group}
-use Rattle.archive_shape.specs.ShapeLayout.Value.Values.{no_values, more_values}
-use Rattle.archive_shape.specs.ShapeLayout.Content.{Names, begins_inline, before_ff, text_length, content_of, choose, following, made, pointee_content, shape_content, text_content}
-use Rattle.archive_shape.specs.ShapeLayout.Content.Part.{at, behind}
-use Rattle.archive_shape.specs.ShapeLayout.Content.Label.{written, same}
-use Rattle.archive_shape.specs.ShapeLayout.Content.Content.{illegal, plain, claimed}
+use Rattle.archive_shape_layout.specs.Bytes.{window, word_at, target_from}
+use Rattle.archive_shape_layout.specs.Shape.{Shape}
+use Rattle.archive_shape_layout.specs.Shape.Shape.{text}
+use Rattle.archive_shape_layout.specs.Shape.Pointee.{str}
+use Rattle.archive_shape_layout.specs.Value.{Value, Values}
+use Rattle.archive_shape_layout.specs.Value.Value.{string, group}
+use Rattle.archive_shape_layout.specs.Value.Values.{no_values, more_values}
+use Rattle.archive_shape_layout.specs.Content.{Names, begins_inline, before_ff, text_length, content_of, choose, following, made, pointee_content, shape_content, text_content}
+use Rattle.archive_shape_layout.specs.Content.Part.{at, behind}
+use Rattle.archive_shape_layout.specs.Content.Label.{written, same}
+use Rattle.archive_shape_layout.specs.Content.Content.{illegal, plain, claimed}
 use Rattle.archive_shape.specs.Key.{HeldAt}
 use Rattle.archive_shape.proofs.Held.{claims_within}
-use Rattle.archive_forms_values.specs.FormsLaws.Text.{own_bytes, LiesAt, HasText, IsText, IsTextThere}
-use Rattle.archive_forms_values.specs.FormsLaws.Text.LiesAt.{inline, out_of_line}
-use Rattle.archive_forms_values.proofs.FormsLaws.Held.{held_is_text_law}
-use Rattle.archive_forms_values.proofs.FormsLaws.TextContent.{before_ff-take}
+use Rattle.archive_forms_laws.specs.Text.{own_bytes, LiesAt, HasText, IsText, IsTextThere}
+use Rattle.archive_forms_laws.specs.Text.LiesAt.{inline, out_of_line}
+use Rattle.archive_forms_laws.proofs.Held.{held_is_text_law}
+use Rattle.archive_forms_laws.proofs.TextContent.{before_ff-take}
 use Rattle.archive_forms_values.proofs.Pointed.{made_same}
-use Rattle.archive_btree_walking.specs.BtreeLayout.Reading.{Place}
-use Rattle.archive_btree_walking.specs.Maps.{IsEntryAt, AreEntriesAt}
-use Rattle.cabinet_archived.specs.Documents.Table.{key_of, item_keys}
-use Rattle.cabinet_archived.specs.Documents.Walk.{Stop, Walks}
-use Rattle.cabinet_archived.proofs.Documents.Begun.{not_walked, ends, onward}
-use Rattle.cabinet_archived.proofs.Documents.TreeWalks.{ItemsWalk, no_items, more_items}
+use Rattle.archive_btree_layout.specs.Reading.{Place}
+use Rattle.archive_btree_maps.specs.Maps.{IsEntryAt, AreEntriesAt}
+use Rattle.cabinet_documents.specs.Table.{key_of, item_keys}
+use Rattle.cabinet_documents.specs.Walk.{Stop, Walks}
+use Rattle.cabinet_documents.proofs.Begun.{not_walked, ends, onward}
+use Rattle.cabinet_documents.proofs.TreeWalks.{ItemsWalk, no_items, more_items}
 
 -- the bytes that a pointer leads to
 abbrev far_text : List ℕ → Option ℕ → ℕ → List ℕ

@@ -1,29 +1,29 @@
 -- What a walk of a node finds, by the node's kind, and the faults that it has.
 use Rattle.std.proofs.Common.{◌≡◌, ◌∙◌, ℕ, zero, suc, ◌+◌, ◌<◌, ◌≤◌, true, nat_lt, ◌==◌, List, [], ◌++◌, slice_index, MatchBool, refl, sym, ap, subst, arith, append-nil}
 use Rattle.std.specs.List.{flat_map}
-use Rattle.archive_shape.specs.ShapeLayout.Bytes.{window, word_at}
-use Rattle.archive_shape.specs.ShapeLayout.Shape.{Shape}
-use Rattle.archive_shape.specs.ShapeLayout.Shape.Shape.{text, option, box, vector}
-use Rattle.archive_shape.specs.ShapeLayout.Shape.Pointee.{sized}
-use Rattle.archive_shape.specs.ShapeLayout.Value.{Value, Values, count_values}
-use Rattle.archive_shape.specs.ShapeLayout.Value.Value.{group}
-use Rattle.archive_shape.specs.ShapeLayout.Content.{Part, elements, members}
+use Rattle.archive_shape_layout.specs.Bytes.{window, word_at}
+use Rattle.archive_shape_layout.specs.Shape.{Shape}
+use Rattle.archive_shape_layout.specs.Shape.Shape.{text, option, box, vector}
+use Rattle.archive_shape_layout.specs.Shape.Pointee.{sized}
+use Rattle.archive_shape_layout.specs.Value.{Value, Values, count_values}
+use Rattle.archive_shape_layout.specs.Value.Value.{group}
+use Rattle.archive_shape_layout.specs.Content.{Part, elements, members}
 use Rattle.archive_forms_values.specs.Parts.{HasValue, PointsTo, IsNoneAt, IsSomeAt, IsVecAt}
-use Rattle.archive_forms_values.proofs.ShapeLayout.Windows.{word_within}
+use Rattle.archive_shape_layout.proofs.Windows.{word_within}
 use Rattle.archive_forms_values.proofs.Payloads.{has_some, option_by_tag, some_is_not_none}
 use Rattle.archive_forms_values.proofs.Pointed.{vec_there}
-use Rattle.archive_btree_walking.specs.BtreeLayout.Reading as reading
-use Rattle.archive_btree_walking.specs.BtreeLayout.Tree.{Tree, items}
-use Rattle.archive_btree_walking.specs.Maps.{IsMapAt}
-use Rattle.archive_btree_walking.specs.Maps.IsMapAt.{has_none, has_root}
-use Rattle.cabinet_archived.specs.Documents.Node.{node_shape, node_names, KnowsNode}
-use Rattle.cabinet_archived.specs.Documents.Order.{ascend}
-use Rattle.cabinet_archived.specs.Documents.Table.{item_keys}
-use Rattle.cabinet_archived.specs.Documents.Walk.{Stop, Walks, WalkAll}
-use Rattle.cabinet_archived.specs.Documents.Audit.{too_deep, keys_not_ascending, unless, faults}
-use Rattle.cabinet_archived.proofs.Documents.Places.{Place, node_here, option_here, list_here, ordered_here, table_here, index_here, part_of, whole_here}
-use Rattle.cabinet_archived.proofs.Documents.NodeWalks.{OptionWalk, walks_none, walks_some, NodeWalk, leaf_walks, option_walks, list_walks, ordered_walks, hashed_walks, kept_walks, option_walk, list_walk, node_walk, whole_walks, whole_walk}
-use Rattle.cabinet_archived.proofs.Documents.TreeWalks.{no_items, MapWalked, map_walked, empty_map_walked, text_quiet}
+use Rattle.archive_btree_layout.specs.Reading as reading
+use Rattle.archive_btree_layout.specs.Tree.{Tree, items}
+use Rattle.archive_btree_maps.specs.Maps.{IsMapAt}
+use Rattle.archive_btree_maps.specs.Maps.IsMapAt.{has_none, has_root}
+use Rattle.cabinet_documents.specs.Node.{node_shape, node_names, KnowsNode}
+use Rattle.cabinet_documents.specs.Order.{ascend}
+use Rattle.cabinet_documents.specs.Table.{item_keys}
+use Rattle.cabinet_documents.specs.Walk.{Stop, Walks, WalkAll}
+use Rattle.cabinet_documents.specs.Audit.{too_deep, keys_not_ascending, unless, faults}
+use Rattle.cabinet_documents.proofs.Places.{Place, node_here, option_here, list_here, ordered_here, table_here, index_here, part_of, whole_here}
+use Rattle.cabinet_documents.proofs.NodeWalks.{OptionWalk, walks_none, walks_some, NodeWalk, leaf_walks, option_walks, list_walks, ordered_walks, hashed_walks, kept_walks, option_walk, list_walk, node_walk, whole_walks, whole_walk}
+use Rattle.cabinet_documents.proofs.TreeWalks.{no_items, MapWalked, map_walked, empty_map_walked, text_quiet}
 
 abbrev pub Boxed : Shape
 Boxed = box (sized node_shape)

@@ -3,18 +3,18 @@ use Rattle.std.proofs.Common.{◌≡◌, ℕ, ◌+◌, ◌*◌, ◌<◌, ◌≤�
 use Rattle.std.specs.Prelude.{IfSome}
 use Rattle.archive_shape.specs.declared.references.refs.Ref.{Ref}
 use Rattle.cabinet_archived.specs.declared.node.ArchivedNode.{ArchivedNode}
-use Rattle.archive_shape.specs.ShapeLayout.Bytes.{align_up}
-use Rattle.archive_shape.specs.ShapeLayout.Shape.{Shape, size_of}
-use Rattle.archive_shape.specs.ShapeLayout.Shape.Shape.{option, box, vector}
-use Rattle.archive_shape.specs.ShapeLayout.Shape.Pointee.{sized}
-use Rattle.archive_shape.specs.ShapeLayout.Value.{Value}
-use Rattle.archive_shape.specs.ShapeLayout.Content.{Names}
-use Rattle.archive_shape.specs.ShapeLayout.Content.Part.{at}
+use Rattle.archive_shape_layout.specs.Bytes.{align_up}
+use Rattle.archive_shape_layout.specs.Shape.{Shape, size_of}
+use Rattle.archive_shape_layout.specs.Shape.Shape.{option, box, vector}
+use Rattle.archive_shape_layout.specs.Shape.Pointee.{sized}
+use Rattle.archive_shape_layout.specs.Value.{Value}
+use Rattle.archive_shape_layout.specs.Content.{Names}
+use Rattle.archive_shape_layout.specs.Content.Part.{at}
 use Rattle.archive_shape.specs.Key.{HeldAt}
 use Rattle.archive_forms_values.specs.Parts.{HasValue, PointsTo, IsNoneAt, IsSomeAt, some_position, IsBoxAt, IsVecAt}
-use Rattle.cabinet_text_nodes.specs.TextGrammar.Path.{Step, key, place, inside, node_at, enters}
-use Rattle.cabinet_archived.specs.Documents.Node.{node_shape, KnowsNode, whole_shape}
-use Rattle.cabinet_archived.specs.Documents.Denotes.{tagged_value}
+use Rattle.cabinet_text_grammar.specs.Path.{Step, key, place, inside, node_at, enters}
+use Rattle.cabinet_documents.specs.Node.{node_shape, KnowsNode, whole_shape}
+use Rattle.cabinet_documents.specs.Denotes.{tagged_value}
 use Rattle.cabinet_archived.specs.Kind.{IsTagged}
 use Rattle.cabinet_text_nodes.proofs.Paths.{then_at}
 use Rattle.cabinet_archives.specs.Keyed.{KeyLeads, KeyLeadsNowhere}
@@ -26,7 +26,7 @@ use Rattle.cabinet_archives.proofs.Soundness.{payload_sound, some_sound, element
 use Rattle.cabinet_archives.proofs.Stepping.{goes_on_at, IsNotInside, IsNoPlace, IsNoKey, other_step, none_step, some_step, past_step, element_step, key_step, no_key_step, whole_step}
 use Rattle.archive_forms_rc.specs.Pointers.{IsRcAt, Counts}
 use Rattle.archive_forms_rc.specs.Pointers.Counts.{counts, leads_back}
-use Rattle.archive_shape.specs.ShapeLayout.Value.Value.{counted}
+use Rattle.archive_shape_layout.specs.Value.Value.{counted}
 use Rattle.cabinet_archives.proofs.Tags.{tag_is}
 use Rattle.cabinet_archives.proofs.Entering.{enters_whole}
 

@@ -7,29 +7,29 @@ use Rattle.std.specs.declared.cmp.Ordering.{Ordering}
 use Rattle.std.specs.declared.cmp.Ordering.TheVariants.{Less, Equal, Greater}
 use Rattle.std.specs.declared.ops.Bound.TheVariants.{Included, Excluded}
 use Rattle.std.specs.Cmp.Lexicographic.{slice_cmp}
-use Rattle.archive_shape.specs.ShapeLayout.Shape.Shape.{text}
-use Rattle.archive_shape.specs.ShapeLayout.Value.{Value}
-use Rattle.archive_shape.specs.ShapeLayout.Content.{members}
-use Rattle.archive_shape.specs.ShapeLayout.Content.Part.{at}
+use Rattle.archive_shape_layout.specs.Shape.Shape.{text}
+use Rattle.archive_shape_layout.specs.Value.{Value}
+use Rattle.archive_shape_layout.specs.Content.{members}
+use Rattle.archive_shape_layout.specs.Content.Part.{at}
 use Rattle.archive_shape.specs.Key.{HeldAt}
 use Rattle.archive_forms_values.specs.Parts.{HasValue}
 use Rattle.archive_shape.specs.declared.references.refs.Ref.{Ref}
 use Rattle.archive_forms_values.specs.declared.text.string.ArchivedString.{ArchivedString}
-use Rattle.archive_btree_walking.specs.BtreeLayout.Reading.{Place}
-use Rattle.archive_btree_walking.specs.BtreeLayout.Tree.{Tree, items}
-use Rattle.archive_btree_walking.specs.BtreeLayout.Descent.{Ascends}
-use Rattle.archive_btree_walking.specs.Lookups.{QueryOrders}
-use Rattle.archive_btree_walking.specs.Maps.{IsMapAt, IsMapOf}
-use Rattle.archive_btree_walking.specs.Ranges.{items_between, OfQueries}
-use Rattle.archive_btree_walking.specs.Refs.{key_at, entry_at}
-use Rattle.archive_btree_walking.proofs.Roots.{tree_of_value}
-use Rattle.archive_forms_values.specs.FormsLaws.Text.{IsText}
-use Rattle.cabinet_archived.specs.Documents.Node.{node_shape, KnowsNode}
-use Rattle.cabinet_archived.specs.Documents.Table.{item_keys}
+use Rattle.archive_btree_layout.specs.Reading.{Place}
+use Rattle.archive_btree_layout.specs.Tree.{Tree, items}
+use Rattle.archive_btree_layout.specs.Descent.{Ascends}
+use Rattle.archive_btree_maps.specs.Lookups.{QueryOrders}
+use Rattle.archive_btree_maps.specs.Maps.{IsMapAt, IsMapOf}
+use Rattle.archive_btree_maps.specs.Bounds.{items_between, OfQueries}
+use Rattle.archive_btree_maps.specs.Refs.{key_at, entry_at}
+use Rattle.archive_btree_maps.proofs.Roots.{tree_of_value}
+use Rattle.archive_forms_laws.specs.Text.{IsText}
+use Rattle.cabinet_documents.specs.Node.{node_shape, KnowsNode}
+use Rattle.cabinet_documents.specs.Table.{item_keys}
 use Rattle.cabinet_archived.specs.declared.node.ArchivedNode.{ArchivedNode}
-use Rattle.cabinet_text_nodes.specs.TextGrammar.Item.{key_item}
-use Rattle.cabinet_text_nodes.specs.TextGrammar.Spelling.{spelled}
-use Rattle.cabinet_text_nodes.specs.TextGrammar.Answering.{lies_within, spelled_keys}
+use Rattle.cabinet_text_grammar.specs.Item.{key_item}
+use Rattle.cabinet_text_grammar.specs.Spelling.{spelled}
+use Rattle.cabinet_text_grammar.specs.Answering.{lies_within, spelled_keys}
 use Rattle.cabinet_archives.specs.Keyed.{knows_pairs}
 use Rattle.cabinet_archives.specs.Ordered.{map_shape}
 use Rattle.cabinet_archives.specs.Sound.{IsSoundPart}

@@ -5,21 +5,21 @@ use Rattle.std.specs.List.{prefix_len}
 use Rattle.std.specs.Ordering.{nat_cmp}
 use Rattle.std.specs.Cmp.Lexicographic.{slice_cmp}
 use Rattle.std.specs.declared.cmp.Ordering.{Ordering}
-use Rattle.archive_shape.specs.ShapeLayout.Shape.Shape.{text}
-use Rattle.archive_shape.specs.ShapeLayout.Value.{Value}
+use Rattle.archive_shape_layout.specs.Shape.Shape.{text}
+use Rattle.archive_shape_layout.specs.Value.{Value}
 use Rattle.archive_shape.specs.Key.{HeldAt}
-use Rattle.archive_forms_values.specs.FormsLaws.Text.{IsText}
-use Rattle.archive_forms_values.specs.ShapeCanonical.Hash.{text_hash}
-use Rattle.archive_hash_probing.specs.ShapeCanonical.Reach.{searched}
-use Rattle.archive_hash_probing.specs.ShapeCanonical.Strides.{sixteens, strides}
+use Rattle.archive_forms_laws.specs.Text.{IsText}
+use Rattle.archive_shape_canonical.specs.Hash.{text_hash}
+use Rattle.archive_shape_canonical.specs.Reach.{searched}
+use Rattle.archive_shape_canonical.specs.Strides.{sixteens, strides}
 use Rattle.archive_hash_probing.specs.Search.{shows}
-use Rattle.archive_btree_walking.specs.BtreeLayout.Descent.{met}
-use Rattle.archive_btree_walking.specs.BtreeLayout.Reading.{Place}
-use Rattle.archive_btree_walking.specs.BtreeLayout.Tree.{Tree}
-use Rattle.archive_btree_walking.specs.Maps.{IsMapAt}
-use Rattle.cabinet_text_nodes.specs.TextGrammar.Path.{Step, key}
-use Rattle.cabinet_archived.specs.Documents.Node.{node_shape}
-use Rattle.cabinet_archived.specs.Documents.Table.{Table, found, hashed_at, kept_at, table_of}
+use Rattle.archive_btree_layout.specs.Descent.{met}
+use Rattle.archive_btree_layout.specs.Reading.{Place}
+use Rattle.archive_btree_layout.specs.Tree.{Tree}
+use Rattle.archive_btree_maps.specs.Maps.{IsMapAt}
+use Rattle.cabinet_text_grammar.specs.Path.{Step, key}
+use Rattle.cabinet_documents.specs.Node.{node_shape}
+use Rattle.cabinet_documents.specs.Table.{Table, found, hashed_at, kept_at, table_of}
 use Rattle.cabinet_archives.specs.Found.{Reaches, ReachesNone}
 use Rattle.cabinet_archives.specs.Hashed.{table_shape}
 use Rattle.cabinet_archives.specs.Kept.{index_shape}

@@ -1,7 +1,7 @@
 -- When a call that writes fails.
 use Rattle.std.specs.Prelude.{◌≡◌, Result, MatchResult}
-use Rattle.archive_shape_writing.specs.declared.error.Error.{Error}
-use Rattle.archive_shape_writing.specs.Writing.{WriterMembers, IsCounted}
+use Rattle.archive_shape_layout.specs.declared.error.Error.{Error}
+use Rattle.archive_shape_layout.specs.Writing.{WriterMembers, IsCounted}
 
 -- exactly when its writer does, with the writer's error
 abbrev pub FailsByWriter : {W A : Type 0} → WriterMembers W

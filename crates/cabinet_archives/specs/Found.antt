@@ -1,13 +1,13 @@
 -- The node that a path leads to in an archived document.
 use Rattle.std.specs.Prelude.{◌≡◌, ℕ, List, Some, None}
-use Rattle.archive_shape.specs.ShapeLayout.Value.{Value}
-use Rattle.archive_shape.specs.ShapeLayout.Content.Part.{at}
+use Rattle.archive_shape_layout.specs.Value.{Value}
+use Rattle.archive_shape_layout.specs.Content.Part.{at}
 use Rattle.archive_shape.specs.Key.{HeldAt}
 use Rattle.archive_forms_values.specs.Parts.{HasValue}
-use Rattle.cabinet_text_nodes.specs.TextGrammar.Tree.{Tree}
-use Rattle.cabinet_text_nodes.specs.TextGrammar.Path.{Step, node_at}
-use Rattle.cabinet_archived.specs.Documents.Node.{node_shape, KnowsNode}
-use Rattle.cabinet_archived.specs.Documents.Denotes.{Denotes}
+use Rattle.cabinet_text_grammar.specs.Tree.{Tree}
+use Rattle.cabinet_text_grammar.specs.Path.{Step, node_at}
+use Rattle.cabinet_documents.specs.Node.{node_shape, KnowsNode}
+use Rattle.cabinet_documents.specs.Denotes.{Denotes}
 use Rattle.cabinet_archives.specs.Sound.{IsSoundPart}
 use Rattle.cabinet_archives.specs.Way.{GoesTo}
 

@@ -1,9 +1,9 @@
 -- The hashed map of nodes, and the pair of a key in its table.
 use Rattle.std.specs.Prelude.{ℕ, List}
-use Rattle.archive_shape.specs.ShapeLayout.Shape.{Shape}
-use Rattle.archive_shape.specs.ShapeLayout.Shape.Shape.{table}
-use Rattle.archive_hash_walking.specs.Tables.{Buckets, item_positions, IsTableAt}
-use Rattle.cabinet_archived.specs.Documents.Node.{pair_shape}
+use Rattle.archive_shape_layout.specs.Shape.{Shape}
+use Rattle.archive_shape_layout.specs.Shape.Shape.{table}
+use Rattle.archive_hash_maps.specs.Tables.{Buckets, item_positions, IsTableAt}
+use Rattle.cabinet_documents.specs.Node.{pair_shape}
 use Rattle.cabinet_archives.specs.Keyed.{HasPair}
 
 abbrev pub table_shape : Shape

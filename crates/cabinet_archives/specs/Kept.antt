@@ -1,12 +1,12 @@
 -- The kept map of nodes, and the entry of a key in it.
 use Rattle.std.specs.Prelude.{ℕ, List}
 use Rattle.std.specs.List.{flat_map}
-use Rattle.archive_shape.specs.ShapeLayout.Shape.{Shape}
-use Rattle.archive_shape.specs.ShapeLayout.Shape.Shape.{text, index_map}
-use Rattle.cabinet_archived.specs.Documents.Audit.{Unsound, search_faults, tag_faults}
-use Rattle.cabinet_archived.specs.Documents.Node.{node_shape}
-use Rattle.cabinet_archived.specs.Documents.Table.{Table}
-use Rattle.cabinet_archived.specs.Index.Maps.{IndexMap, IsMapAt, entry_positions}
+use Rattle.archive_shape_layout.specs.Shape.{Shape}
+use Rattle.archive_shape_layout.specs.Shape.Shape.{text, index_map}
+use Rattle.cabinet_documents.specs.Audit.{Unsound, search_faults, tag_faults}
+use Rattle.cabinet_documents.specs.Node.{node_shape}
+use Rattle.cabinet_documents.specs.Table.{Table}
+use Rattle.archive_index.specs.Maps.{IndexMap, IsMapAt, entry_positions}
 use Rattle.cabinet_archives.specs.Keyed.{HasPair}
 
 abbrev pub index_shape : Shape

@@ -1,19 +1,19 @@
 -- What a key leads to in a map, by its value and by the positions of its pairs.
 use Rattle.std.specs.Prelude.{◌≡◌, ℕ, ◌<◌, Bool, List, Some, ⊤}
 use Rattle.std.specs.List.{slice_get}
-use Rattle.archive_shape.specs.ShapeLayout.Shape.{Shape}
-use Rattle.archive_shape.specs.ShapeLayout.Shape.Shape.{text}
-use Rattle.archive_shape.specs.ShapeLayout.Shape.Shapes.{no_shapes}
-use Rattle.archive_shape.specs.ShapeLayout.Value.{Value}
-use Rattle.archive_shape.specs.ShapeLayout.Content.{Names, members}
-use Rattle.archive_forms_values.specs.ShapeLayout.Path.{value_in}
+use Rattle.archive_shape_layout.specs.Shape.{Shape}
+use Rattle.archive_shape_layout.specs.Shape.Shape.{text}
+use Rattle.archive_shape_layout.specs.Shape.Shapes.{no_shapes}
+use Rattle.archive_shape_layout.specs.Value.{Value}
+use Rattle.archive_shape_layout.specs.Content.{Names, members}
+use Rattle.archive_shape_layout.specs.Path.{value_in}
 use Rattle.archive_forms_values.specs.Fields.{field_position}
-use Rattle.archive_forms_values.specs.FormsLaws.Text.{IsText}
+use Rattle.archive_forms_laws.specs.Text.{IsText}
 use Rattle.archive_forms_values.specs.Parts.{both}
 use Rattle.archive_shape.specs.Key.{HeldAt}
-use Rattle.cabinet_archived.specs.Documents.Denotes.{pair_value}
-use Rattle.cabinet_archived.specs.Documents.Node.{node_shape, KnowsNode}
-use Rattle.cabinet_archived.specs.Documents.Order.{is_same}
+use Rattle.cabinet_documents.specs.Denotes.{pair_value}
+use Rattle.cabinet_documents.specs.Node.{node_shape, KnowsNode}
+use Rattle.cabinet_documents.specs.Order.{is_same}
 
 -- what the layout of texts and nodes knows of the names in it
 abbrev pub knows_pairs : Names → Type 0

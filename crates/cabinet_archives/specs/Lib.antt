@@ -1,5 +1,4 @@
 pub mod Cost
-pub mod Documents
 pub mod Failing
 pub mod Found
 pub mod Hashed

@@ -5,23 +5,23 @@ use Rattle.std.specs.Ordering.{match_ordering, nat_cmp, ordering_then}
 use Rattle.std.specs.Cmp.Lexicographic.{slice_cmp}
 use Rattle.std.specs.Rc.{rc_str_bytes}
 use Rattle.std.specs.declared.cmp.Ordering.{Ordering}
-use Rattle.archive_shape.specs.ShapeLayout.Bytes.{window}
+use Rattle.archive_shape_layout.specs.Bytes.{window}
 use Rattle.std.specs.declared.alloc.Global.{Global}
-use Rattle.archive_shape.specs.ShapeLayout.Shape.{Shape}
-use Rattle.archive_shape.specs.ShapeLayout.Shape.Shape.{text}
-use Rattle.archive_shape.specs.ShapeLayout.Value.Value.{string}
-use Rattle.archive_shape.specs.ShapeLayout.Value.{Value}
-use Rattle.archive_shape.specs.ShapeLayout.Content.{Names}
+use Rattle.archive_shape_layout.specs.Shape.{Shape}
+use Rattle.archive_shape_layout.specs.Shape.Shape.{text}
+use Rattle.archive_shape_layout.specs.Value.Value.{string}
+use Rattle.archive_shape_layout.specs.Value.{Value}
+use Rattle.archive_shape_layout.specs.Content.{Names}
 use Rattle.archive_shape.specs.Key.{HeldAt}
 use Rattle.archive_forms_values.specs.Parts.{HasValue}
-use Rattle.cabinet_text_nodes.specs.TextGrammar.Completing.{text_in}
-use Rattle.cabinet_text_nodes.specs.TextGrammar.Tree.{Tree, Pairs, no_pairs, more_pairs, IsLegal, depth as height, map}
-use Rattle.cabinet_text_nodes.specs.TextGrammar.Keys.{MapKind}
-use Rattle.cabinet_text_nodes.specs.TextGrammar.Wholes.{IsTable, numbered, with_wholes, with_wholes_by}
+use Rattle.cabinet_text_grammar.specs.Completing.{text_in}
+use Rattle.cabinet_text_grammar.specs.Tree.{Tree, Pairs, no_pairs, more_pairs, IsLegal, depth as height, map}
+use Rattle.cabinet_text_grammar.specs.Keys.{MapKind}
+use Rattle.cabinet_text_grammar.specs.Wholes.{IsTable, numbered, with_wholes, with_wholes_by}
 use Rattle.cabinet_text_nodes.specs.View.{node_tree, node_pairs, table_of}
 use Rattle.cabinet_text_nodes.specs.declared.node.Node.{Node}
-use Rattle.cabinet_archived.specs.Documents.Denotes.{Denotes}
-use Rattle.cabinet_archived.specs.Documents.Node.{node_shape, KnowsNode}
+use Rattle.cabinet_documents.specs.Denotes.{Denotes}
+use Rattle.cabinet_documents.specs.Node.{node_shape, KnowsNode}
 use Rattle.cabinet_archives.specs.Found.{OfDocument}
 use Rattle.cabinet_archives.specs.Keyed.{knows_pairs}
 use Rattle.cabinet_archives.specs.declared.loading.texts.LoadedTexts.{LoadedTexts}

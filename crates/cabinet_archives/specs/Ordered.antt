@@ -1,13 +1,13 @@
 -- The ordered map of nodes, and the entry of a key in it.
 use Rattle.std.specs.Prelude.{◌≡◌, ℕ, ◌<◌, List, Some}
 use Rattle.std.specs.List.{slice_get}
-use Rattle.archive_shape.specs.ShapeLayout.Shape.{Shape}
-use Rattle.archive_shape.specs.ShapeLayout.Shape.Shape.{text, tree}
-use Rattle.archive_forms_values.specs.FormsLaws.Text.{IsText}
-use Rattle.archive_btree_walking.specs.BtreeLayout.Reading.{Place}
-use Rattle.archive_btree_walking.specs.BtreeLayout.Tree.{Tree, items}
-use Rattle.archive_btree_walking.specs.Maps.{IsMapAt}
-use Rattle.cabinet_archived.specs.Documents.Node.{node_shape}
+use Rattle.archive_shape_layout.specs.Shape.{Shape}
+use Rattle.archive_shape_layout.specs.Shape.Shape.{text, tree}
+use Rattle.archive_forms_laws.specs.Text.{IsText}
+use Rattle.archive_btree_layout.specs.Reading.{Place}
+use Rattle.archive_btree_layout.specs.Tree.{Tree, items}
+use Rattle.archive_btree_maps.specs.Maps.{IsMapAt}
+use Rattle.cabinet_documents.specs.Node.{node_shape}
 
 abbrev pub map_shape : Shape
 map_shape = tree 5 text node_shape

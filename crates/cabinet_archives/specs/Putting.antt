@@ -1,10 +1,10 @@
 -- The bytes after a leaf is put in the place of a node.
 use Rattle.std.specs.Prelude.{◌≡◌, ℕ, ◌+◌, List, length}
 use Rattle.archive_shape.specs.Bytes.{overwrite}
-use Rattle.archive_forms_values.specs.FormsLaws.Text.{LiesAt}
-use Rattle.cabinet_text_nodes.specs.TextGrammar.Tree.{Leaf, truth, number, text}
-use Rattle.cabinet_text_nodes.specs.TextGrammar.Answering.{Answer, done}
-use Rattle.cabinet_archived.specs.Documents.Node.{own_bytes}
+use Rattle.archive_forms_laws.specs.Text.{LiesAt}
+use Rattle.cabinet_text_grammar.specs.Tree.{Leaf, truth, number, text}
+use Rattle.cabinet_text_grammar.specs.Answering.{Answer, done}
+use Rattle.cabinet_documents.specs.Node.{own_bytes}
 
 -- the own bytes of the leaf that the node at `pos` is begin at `start`: after its tag, or where its text lies
 abbrev pub BeginsAt : List ℕ → ℕ → Leaf → ℕ → Type 0

@@ -1,8 +1,8 @@
 -- What a refusal to open states about the bytes.
 use Rattle.std.specs.Prelude.{◌≡◌, ◌≢◌}
-use Rattle.archive_shape_writing.specs.declared.error.Error.{Error}
-use Rattle.archive_shape_writing.specs.declared.error.Error.TheVariants as error
-use Rattle.cabinet_archived.specs.Documents.Audit as audit
+use Rattle.archive_shape_layout.specs.declared.error.Error.{Error}
+use Rattle.archive_shape_layout.specs.declared.error.Error.TheVariants as error
+use Rattle.cabinet_documents.specs.Audit as audit
 use Rattle.cabinet_archives.specs.declared.opening.refusal.OpenRefusal.{OpenRefusal}
 use Rattle.cabinet_archives.specs.declared.opening.refusal.OpenRefusal.TheVariants.{Access, TooDeep, KeysNotAscending, WrongTag, NotFound, OutOfMemory}
 

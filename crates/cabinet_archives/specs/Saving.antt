@@ -1,16 +1,16 @@
 -- The results of saving a document.
 use Rattle.std.specs.Prelude.{◌≡◌, ℕ, ◌+◌, ◌<◌, ◌⊎◌, true, false, List, ◌++◌, length, IsTrue, ⊤}
-use Rattle.archive_shape_writing.specs.Writing.{WriterMembers}
-use Rattle.archive_shape_writing.specs.declared.error.Error.{Error}
-use Rattle.archive_forms_values.specs.ShapeLayout.Value.{Value}
-use Rattle.archive_forms_values.specs.ShapeCanonical.FirstFit.{first_fit}
-use Rattle.archive_forms_values.specs.ShapeCanonical.Hash.{text_hash}
-use Rattle.archive_forms_values.specs.ShapeCanonical.Limits.{PastLimits}
-use Rattle.cabinet_text_nodes.specs.TextGrammar.Tree.{Tree}
-use Rattle.cabinet_archived.specs.Documents.Node.{node_shape, node_names}
-use Rattle.cabinet_archived.specs.Documents.Denotes.{Denotes}
-use Rattle.cabinet_archived.specs.Documents.Fitted.{IsFitted}
-use Rattle.cabinet_archived.specs.Documents.Image.{Image}
+use Rattle.archive_shape_layout.specs.Writing.{WriterMembers}
+use Rattle.archive_shape_layout.specs.declared.error.Error.{Error}
+use Rattle.archive_shape_layout.specs.Value.{Value}
+use Rattle.archive_shape_canonical.specs.FirstFit.{first_fit}
+use Rattle.archive_shape_canonical.specs.Hash.{text_hash}
+use Rattle.archive_shape_canonical.specs.Limits.{PastLimits}
+use Rattle.cabinet_text_grammar.specs.Tree.{Tree}
+use Rattle.cabinet_documents.specs.Node.{node_shape, node_names}
+use Rattle.cabinet_documents.specs.Denotes.{Denotes}
+use Rattle.cabinet_documents.specs.Fitted.{IsFitted}
+use Rattle.cabinet_documents.specs.Image.{Image}
 use Rattle.cabinet_archives.specs.declared.saving.saving.SaveRefusal.{SaveRefusal}
 use Rattle.cabinet_archives.specs.declared.saving.saving.SaveRefusal.TheVariants.{Limit, Writer, OutOfMemory}
 

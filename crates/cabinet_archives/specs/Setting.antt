@@ -1,12 +1,12 @@
 -- The bytes after a leaf is set.
 use Rattle.std.specs.Prelude.{◌≡◌, ℕ, List, length}
-use Rattle.archive_shape.specs.ShapeLayout.Value.{Value}
+use Rattle.archive_shape_layout.specs.Value.{Value}
 use Rattle.archive_shape.specs.Bytes.{overwrite}
-use Rattle.cabinet_text_nodes.specs.TextGrammar.Tree.{Leaf}
-use Rattle.cabinet_text_nodes.specs.TextGrammar.Path.{Step}
-use Rattle.cabinet_text_nodes.specs.TextGrammar.Answering.{Answer, done}
-use Rattle.cabinet_archived.specs.Documents.Node.{own_bytes}
-use Rattle.cabinet_archived.specs.Documents.OwnBytes.{OwnBytes}
+use Rattle.cabinet_text_grammar.specs.Tree.{Leaf}
+use Rattle.cabinet_text_grammar.specs.Path.{Step}
+use Rattle.cabinet_text_grammar.specs.Answering.{Answer, done}
+use Rattle.cabinet_documents.specs.Node.{own_bytes}
+use Rattle.cabinet_documents.specs.OwnBytes.{OwnBytes}
 
 -- the own bytes of the leaf at a path are those of another leaf, and all other bytes are unchanged
 pub record IsWritten (bytes : List ℕ) (root : Value) (path : List Step) (new : Leaf) (after : List ℕ) : Type 0 where

@@ -2,13 +2,13 @@
 use Rattle.std.specs.Prelude.{◌≡◌, ℕ, ◌+◌, ◌<◌, ◌≤◌, ◌⊎◌, List, [], Some, IfSome, Result, Ok, Err}
 use Rattle.std.specs.BTreeMap.{BTreeMap, get}
 use Rattle.std.specs.Ordering.{nat_cmp}
-use Rattle.archive_shape.specs.ShapeLayout.Value.{Value}
-use Rattle.archive_shape.specs.ShapeLayout.Content.{Part}
-use Rattle.archive_shape.specs.ShapeLayout.Content.Part.{at}
-use Rattle.cabinet_archived.specs.Documents.Node.{node_names, node_shape}
-use Rattle.cabinet_archived.specs.Documents.Walk.{Stop, Walks}
-use Rattle.cabinet_archived.specs.Documents.Audit as audit
-use Rattle.cabinet_archived.specs.Documents.Audit.{faults, first_of}
+use Rattle.archive_shape_layout.specs.Value.{Value}
+use Rattle.archive_shape_layout.specs.Content.{Part}
+use Rattle.archive_shape_layout.specs.Content.Part.{at}
+use Rattle.cabinet_documents.specs.Node.{node_names, node_shape}
+use Rattle.cabinet_documents.specs.Walk.{Stop, Walks}
+use Rattle.cabinet_documents.specs.Audit as audit
+use Rattle.cabinet_documents.specs.Audit.{faults, first_of}
 use Rattle.cabinet_archives.specs.declared.opening.refusal.OpenRefusal.{OpenRefusal}
 use Rattle.cabinet_archives.specs.declared.opening.refusal.OpenRefusal.TheVariants.{OutOfMemory}
 use Rattle.cabinet_archives.specs.Refused.{refusal_of}

@@ -1,7 +1,7 @@
 -- The positions that a path leads through in the bytes of an archive, from node to node.
 use Rattle.std.specs.Prelude.{◌≡◌, ℕ, ◌+◌, ◌*◌, List, [], ◌∷◌, slice_index}
 use Rattle.archive_forms_values.specs.Parts.{PointsTo}
-use Rattle.cabinet_text_nodes.specs.TextGrammar.Path.{Step, key, place, inside}
+use Rattle.cabinet_text_grammar.specs.Path.{Step, key, place, inside}
 use Rattle.cabinet_archives.specs.Hashed.{HasBucket}
 use Rattle.cabinet_archives.specs.Kept.{HasNumbered}
 use Rattle.cabinet_archives.specs.Ordered.{HasEntry}

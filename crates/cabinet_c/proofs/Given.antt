@@ -2,8 +2,8 @@
 use Rattle.std.proofs.Common.{◌≡◌, ℕ, List, [], ◌++◌, subst, sym, ap, ◌∙◌}
 use Rattle.cabinet_text_grammar.specs.Tree.{Tree}
 use Rattle.cabinet_text_grammar.specs.Spelling.{text_of}
-use Rattle.cabinet.specs.Documents.Accepted.{Accepted}
-use Rattle.cabinet.specs.Documents.Image.{Image}
+use Rattle.cabinet_documents.specs.Accepted.{Accepted}
+use Rattle.cabinet_documents.specs.Image.{Image}
 use Rattle.cabinet_c.specs.Buffers.{Gives}
 use Rattle.cabinet_c.specs.Calls.{Builds, builds, Loads, loads}
 use Rattle.cabinet_c.specs.declared.status.Status.{Status}

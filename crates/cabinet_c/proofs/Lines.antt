@@ -6,7 +6,7 @@ use Rattle.cabinet_text_grammar.specs.Path.{Step}
 use Rattle.cabinet_text_grammar.specs.Line.{Line, get, keys, range, set, Says}
 use Rattle.cabinet_text_grammar.specs.Answering.{Answer, answer, change, spelled_answer}
 use Rattle.cabinet_text_nodes.specs.Lines.{IsQuestion}
-use Rattle.cabinet.specs.Documents.Accepted.{Accepted}
+use Rattle.cabinet_documents.specs.Accepted.{Accepted}
 use Rattle.cabinet.specs.Editing.{Edited}
 use Rattle.cabinet_c.specs.Buffers.{Gives, GivesNothing}
 use Rattle.cabinet_c.specs.Calls.{Answers, Asks, answers, CarriesOut, Sets, carries_out, out_of_memory}

@@ -6,10 +6,10 @@ use Rattle.cabinet_text_grammar.specs.Answering.{answer, spelled_answer}
 use Rattle.cabinet_text_grammar.specs.Spelling.{text_of}
 use Rattle.cabinet_text_grammar.specs.Fault.{FirstFault}
 use Rattle.cabinet_text_grammar.specs.declared.cause.Cause.{Cause}
-use Rattle.cabinet.specs.Archives.Saving.{IsPast}
-use Rattle.cabinet.specs.Documents.Accepted.{Accepted}
-use Rattle.cabinet.specs.Documents.Audit.{Refusal, IsRefusedFor}
-use Rattle.cabinet.specs.Documents.Image.{Image}
+use Rattle.cabinet_archives.specs.Saving.{IsPast}
+use Rattle.cabinet_documents.specs.Accepted.{Accepted}
+use Rattle.cabinet_documents.specs.Audit.{Refusal, IsRefusedFor}
+use Rattle.cabinet_documents.specs.Image.{Image}
 use Rattle.cabinet.specs.Editing.{Edited}
 use Rattle.cabinet_c.specs.Buffers.{Gives, GivesNothing}
 use Rattle.cabinet_c.specs.Codes.{status_of_refusal, status_of_cause, status_of_answer}

@@ -3,7 +3,7 @@ use Rattle.std.specs.Prelude.{◌≡◌, ℕ}
 use Rattle.cabinet_text_grammar.specs.Answering.{Answer, head, keys_are, wrong, missing, done, refused, bad}
 use Rattle.cabinet_text_grammar.specs.declared.cause.Cause.{Cause}
 use Rattle.cabinet_text_grammar.specs.declared.cause.Cause.TheVariants as cause
-use Rattle.cabinet.specs.Documents.Audit.{Refusal, access, unsound, out_of_memory, too_deep, keys_not_ascending, wrong_tag, not_found}
+use Rattle.cabinet_documents.specs.Audit.{Refusal, access, unsound, out_of_memory, too_deep, keys_not_ascending, wrong_tag, not_found}
 use Rattle.cabinet_c.specs.declared.status.Status.{Status}
 use Rattle.cabinet_c.specs.declared.status.Status.TheVariants as status
 

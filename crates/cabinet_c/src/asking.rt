@@ -1,7 +1,7 @@
 //! The answer to a question about the document of an archive, put into a buffer.
 ghost use Rattle.std.specs.Prelude.{◌≡◌};
-ghost use Rattle.cabinet.specs.TextGrammar.Tree.{Tree};
-ghost use Rattle.cabinet.specs.Documents.Accepted.{Accepted};
+ghost use Rattle.cabinet_text_grammar.specs.Tree.{Tree};
+ghost use Rattle.cabinet_documents.specs.Accepted.{Accepted};
 ghost use Rattle.cabinet_c.specs.Calls.{Asks};
 
 use crate::putting::put;

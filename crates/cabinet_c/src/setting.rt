@@ -1,7 +1,7 @@
 //! An edit of the document of an archive, in place.
 ghost use Rattle.std.specs.Prelude.{◌≡◌};
-ghost use Rattle.cabinet.specs.TextGrammar.Tree.{Tree};
-ghost use Rattle.cabinet.specs.Documents.Accepted.{Accepted};
+ghost use Rattle.cabinet_text_grammar.specs.Tree.{Tree};
+ghost use Rattle.cabinet_documents.specs.Accepted.{Accepted};
 ghost use Rattle.cabinet_c.specs.Calls.{Sets};
 
 use crate::status::Status;

@@ -1,6 +1,6 @@
 //! The statuses of the calls, their codes, and which refusal or answer each status tells.
 ghost use Rattle.std.specs.Prelude.{◌≡◌};
-ghost use Rattle.cabinet.specs.Archives.Refused.{refusal_of};
+ghost use Rattle.cabinet_archives.specs.Refused.{refusal_of};
 ghost use Rattle.cabinet_text_grammar.specs.Answering.{Answer};
 ghost use Rattle.cabinet_text_nodes.specs.Answers.{Tells};
 ghost use Rattle.cabinet_text_nodes.specs.Outcomes.{outcome_of};

@@ -1,29 +1,29 @@
 -- Writing one level of a node, with the nodes below it written as nodes, writes the node.
 use Rattle.std.proofs.Common.{◌≡◌, ℕ, suc, ◌+◌, ◌≤◌, List, [], ◌∷◌, map as mapped, Option, Some, None, refl, ap, arith}
 use Rattle.std.proofs.Math.Nat.{le-max_left, le-max_right}
-use Rattle.archive_forms_values.specs.ShapeLayout.Bytes.{align_up}
-use Rattle.archive_forms_values.specs.ShapeLayout.Shape.{Shape, size_of, align_of}
-use Rattle.archive_forms_values.specs.ShapeLayout.Shape.Shape.{text, option, choice, vector, tree, table, index_map}
-use Rattle.archive_forms_values.specs.ShapeLayout.Value.Value.{chosen}
-use Rattle.archive_forms_values.specs.ShapeLayout.Value.Values.{no_values, more_values}
-use Rattle.archive_forms_values.specs.ShapeWriting.declared.error.Error.{Error}
-use Rattle.archive_forms_values.specs.FormsLaws.Spelling.{Spelling}
-use Rattle.archive_forms_values.specs.FormsLaws.Forms.{kept_as}
-use Rattle.archive_forms_values.specs.FormsLaws.Pointers.{box_spelling, slice_spelling}
-use Rattle.archive_forms_values.specs.FormsLaws.Options.{tagged_bytes, payload_at, option_spelling, option_own, option_own_fits, option_own_refused}
-use Rattle.archive_forms_values.proofs.FormsLaws.Agreeing.{said, AgreeOn, slices_agree, self_agrees, serializes_alike}
-use Rattle.archive_forms_values.specs.FormsLaws.Fields.{tuple2_spelling}
-use Rattle.archive_forms_values.specs.FormsLaws.Shared.{shared_value_spelling}
-use Rattle.archive_forms_values.specs.ShapeLayout.Shape.Pointee.{sized}
-use Rattle.archive_forms_values.specs.ShapeCanonical.Hash.{text_hash}
-use Rattle.archive_forms_rc.specs.FormsWriting.Owned.{str_spelling}
+use Rattle.archive_shape_layout.specs.Bytes.{align_up}
+use Rattle.archive_shape_layout.specs.Shape.{Shape, size_of, align_of}
+use Rattle.archive_shape_layout.specs.Shape.Shape.{text, option, choice, vector, tree, table, index_map}
+use Rattle.archive_shape_layout.specs.Value.Value.{chosen}
+use Rattle.archive_shape_layout.specs.Value.Values.{no_values, more_values}
+use Rattle.archive_shape_layout.specs.declared.error.Error.{Error}
+use Rattle.archive_forms_laws.specs.Spelling.{Spelling}
+use Rattle.archive_forms_laws.specs.Forms.{kept_as}
+use Rattle.archive_forms_laws.specs.Pointers.{box_spelling, slice_spelling}
+use Rattle.archive_forms_laws.specs.Options.{tagged_bytes, payload_at, option_spelling, option_own, option_own_fits, option_own_refused}
+use Rattle.archive_forms_laws.proofs.Agreeing.{said, AgreeOn, slices_agree, self_agrees, serializes_alike}
+use Rattle.archive_forms_laws.specs.Fields.{tuple2_spelling}
+use Rattle.archive_forms_laws.specs.Shared.{shared_value_spelling}
+use Rattle.archive_shape_layout.specs.Shape.Pointee.{sized}
+use Rattle.archive_shape_canonical.specs.Hash.{text_hash}
+use Rattle.archive_forms_writing.specs.Owned.{str_spelling}
 use Rattle.archive_btree_spelling.specs.Maps.{btree_spelling}
 use Rattle.archive_btree_spelling.proofs.Seen.{btree_agrees}
 use Rattle.archive_hash_writing.specs.Tables.{table_spelling}
 use Rattle.archive_hash_writing.proofs.Agreeing.{one_spelling, tables_agree}
-use Rattle.archive_index_spelling.specs.Maps.{index_spelling}
-use Rattle.archive_index_spelling.specs.Resolvers.{resolver_of, positions_of}
-use Rattle.archive_index_spelling.proofs.Agreeing.{index_agrees}
+use Rattle.archive_hash_writing.specs.IndexMaps.{index_spelling}
+use Rattle.archive_hash_writing.specs.IndexResolvers.{resolver_of, positions_of}
+use Rattle.archive_hash_writing.proofs.IndexAgreeing.{index_agrees}
 use Rattle.cabinet_text_grammar.specs.Keys.{ordered, hashed, kept}
 use Rattle.cabinet_text_grammar.specs.Tree as document
 use Rattle.cabinet_text_grammar.specs.Tree.{Tree, Trees, Pairs, leaf, shared, nothing, just, list, map, whole, no_trees, more_trees, no_pairs, more_pairs, depth, most_depth, pairs_depth}

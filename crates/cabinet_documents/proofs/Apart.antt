@@ -1,12 +1,12 @@
 -- The own bytes of leaves at different paths do not overlap.
 use Rattle.std.proofs.Common.{◌≡◌, ◌≢◌, ℕ, ◌<◌, ◌≤◌, List, [], ◌∷◌, ◌++◌, length, Option, Some, refl, sym, ap, ap₂, ◌∙◌, arith, ◌⊎◌, inl, inr, ⊎_elim}
-use Rattle.archive_forms_values.specs.ShapeLayout.Value.{Value, Values}
-use Rattle.archive_forms_values.specs.ShapeLayout.Value.Value.{group}
-use Rattle.archive_forms_values.specs.ShapeLayout.Edit.{Apart}
-use Rattle.archive_forms_values.specs.ShapeLayout.Path.{value_in}
-use Rattle.archive_forms_values.specs.ShapeLayout.Holds.{root_position}
-use Rattle.archive_forms_values.proofs.ShapeLayout.Leaves.{leaves_apart_law}
-use Rattle.archive_forms_values.proofs.ArchiveShape.Sealed.{held as held_at}
+use Rattle.archive_shape_layout.specs.Value.{Value, Values}
+use Rattle.archive_shape_layout.specs.Value.Value.{group}
+use Rattle.archive_shape_layout.specs.Edit.{Apart}
+use Rattle.archive_shape_layout.specs.Path.{value_in}
+use Rattle.archive_shape_layout.specs.Holds.{root_position}
+use Rattle.archive_shape_layout.proofs.Leaves.{leaves_apart_law}
+use Rattle.archive_shape.proofs.Sealed.{held as held_at}
 use Rattle.cabinet_text_grammar.specs.Path.{Step, key, place, inside}
 use Rattle.cabinet_documents.specs.Node.{node_names, node_shape}
 use Rattle.cabinet_documents.specs.Denotes.{tagged_value, pair_value}

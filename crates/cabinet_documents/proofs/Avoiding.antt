@@ -1,23 +1,23 @@
 -- The way to a leaf leads to no key, and the parts along a way in a canonical archive are clean.
 use Rattle.std.proofs.Common.{◌≡◌, ℕ, zero, suc, nat_lt, Bool, true, false, List, [], ◌∷◌, ◌++◌, Some, refl, sym, ap, ap₂, subst, ◌∙◌, arith, ltb-true}
 use Rattle.std.proofs.lemmas.Bool.{ltb-false}
-use Rattle.archive_forms_values.specs.ShapeLayout.Value.{Value, Values}
-use Rattle.archive_forms_values.specs.ShapeLayout.Value.Value.{group, chosen}
-use Rattle.archive_forms_values.specs.ShapeLayout.Content.{Names, Part, Span, Label, Content, content_of, made}
-use Rattle.archive_forms_values.specs.ShapeLayout.Content.Label.{same, second, whole, tagged, woven, total}
-use Rattle.archive_forms_values.specs.ShapeLayout.Content.Content.{plain, claimed}
-use Rattle.archive_forms_values.specs.ShapeLayout.Holds.{Region, Visit, OpenShared, Holds, HoldAll}
-use Rattle.archive_forms_values.specs.ShapeLayout.Holds.Holds.{holds_plain, holds_claimed, holds_first, holds_later, holds_back}
-use Rattle.archive_forms_values.specs.ShapeLayout.Holds.HoldAll.{holds_none, holds_more}
-use Rattle.archive_forms_values.specs.ShapeLayout.Path.{Stands, StandsIn, value_in, value_at, and_then, through}
-use Rattle.archive_forms_values.specs.ShapeLayout.Path.Stands.{stands_here, stands_plain, stands_claimed}
-use Rattle.archive_forms_values.specs.ShapeLayout.Path.StandsIn.{stands_first, stands_later}
-use Rattle.archive_forms_values.proofs.ShapeLayout.Paths.{path_is}
-use Rattle.archive_forms_values.proofs.ShapeLayout.Stood.{InValue, stands_in_value}
-use Rattle.archive_forms_values.specs.ShapeCanonical.Clean.{IsClean}
-use Rattle.archive_forms_values.specs.ShapeCanonical.Settled.{Fit}
-use Rattle.archive_forms_values.specs.ShapeCanonical.Canonical.{IsCanonical, AreCanonical, end_of}
-use Rattle.archive_forms_values.specs.ShapeCanonical.Laws.{IsOnward, AvoidsKey, AvoidsKeys, AvoidKeys}
+use Rattle.archive_shape_layout.specs.Value.{Value, Values}
+use Rattle.archive_shape_layout.specs.Value.Value.{group, chosen}
+use Rattle.archive_shape_layout.specs.Content.{Names, Part, Span, Label, Content, content_of, made}
+use Rattle.archive_shape_layout.specs.Content.Label.{same, second, whole, tagged, woven, total}
+use Rattle.archive_shape_layout.specs.Content.Content.{plain, claimed}
+use Rattle.archive_shape_layout.specs.Holds.{Region, Visit, OpenShared, Holds, HoldAll}
+use Rattle.archive_shape_layout.specs.Holds.Holds.{holds_plain, holds_claimed, holds_first, holds_later, holds_back}
+use Rattle.archive_shape_layout.specs.Holds.HoldAll.{holds_none, holds_more}
+use Rattle.archive_shape_layout.specs.Path.{Stands, StandsIn, value_in, value_at, and_then, through}
+use Rattle.archive_shape_layout.specs.Path.Stands.{stands_here, stands_plain, stands_claimed}
+use Rattle.archive_shape_layout.specs.Path.StandsIn.{stands_first, stands_later}
+use Rattle.archive_shape_layout.proofs.Paths.{path_is}
+use Rattle.archive_shape_layout.proofs.Stood.{InValue, stands_in_value}
+use Rattle.archive_shape_canonical.specs.Clean.{IsClean}
+use Rattle.archive_shape_canonical.specs.Settled.{Fit}
+use Rattle.archive_shape_canonical.specs.Canonical.{IsCanonical, AreCanonical, end_of}
+use Rattle.archive_shape_canonical.specs.Laws.{IsOnward, AvoidsKey, AvoidsKeys, AvoidKeys}
 use Rattle.cabinet_documents.specs.Node.{node_names}
 use Rattle.cabinet_documents.specs.Denotes.{pair_value}
 use Rattle.cabinet_documents.proofs.Places.{Place, node_here, payload_here, truth_here, number_here, text_here, shared_here, option_here, box_here, ordered_here, table_here, index_here, whole_here, pair_here, tree_node, tree_child, entry_here, buckets_here, numbers_here, entry_number, nodes_behind, pairs_behind, text_behind, Spot, part_of, parts_at, nodes_from, pairs_from, entries_from, children_from, items_from, numbers_from, Passes, node_passes, box_passes, behind_passes, list_passes, text_passes, child_passes, table_passes, Pays, pays_truth, pays_number, pays_text, pays_shared, pays_option, pays_list, pays_ordered, pays_hashed, pays_kept, pays_whole, Follows, passes, pays, truth_is, number_is, text_is, behind_is, none_is, some_is, nodes_follow, empty_is, total_is, leaf_follows, inner_follows, no_child_is, entry_follows, no_items_is, items_follow, no_entries_is, entries_second, numbers_follow, entry_number_is, pairs_follow, pair_follows, Leads, leads_nowhere, leads_plain, leads_claimed, leads_counted, leads_whole, led}

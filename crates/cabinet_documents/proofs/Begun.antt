@@ -2,10 +2,10 @@
 use Rattle.std.proofs.Common.{◌≡◌, ◌∙◌, ℕ, List, [], ◌∷◌, ◌++◌, Some, refl, ap, subst, append-nil}
 use Rattle.std.specs.List.{flat_map}
 use Rattle.std.proofs.lemmas.Grind.{flat_map-append}
-use Rattle.archive_forms_values.specs.ShapeLayout.Value.{Value, Values}
-use Rattle.archive_forms_values.specs.ShapeLayout.Value.Values.{no_values, more_values}
-use Rattle.archive_forms_values.specs.ShapeLayout.Content.{Names, Part, Content, content_of}
-use Rattle.archive_forms_values.specs.ShapeLayout.Content.Content.{illegal}
+use Rattle.archive_shape_layout.specs.Value.{Value, Values}
+use Rattle.archive_shape_layout.specs.Value.Values.{no_values, more_values}
+use Rattle.archive_shape_layout.specs.Content.{Names, Part, Content, content_of}
+use Rattle.archive_shape_layout.specs.Content.Content.{illegal}
 use Rattle.cabinet_documents.specs.Walk.{Stop, Walks, WalkAll, depth_in, parts_of, value_of, joined}
 use Rattle.cabinet_documents.specs.Walk.Walks.{walks}
 use Rattle.cabinet_documents.specs.Walk.WalkAll.{walk_none, walk_more}

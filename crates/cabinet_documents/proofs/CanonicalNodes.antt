@@ -1,10 +1,10 @@
 -- A node in a canonical archive has a walk in which each table is sound, and a value in the order of first fit.
 use Rattle.std.proofs.Common.{ℕ, List, length, refl}
-use Rattle.archive_forms_values.specs.ShapeLayout.Value.{Value}
-use Rattle.archive_forms_values.specs.ShapeLayout.Holds.{Region, Visit, root_position}
-use Rattle.archive_forms_values.specs.ShapeCanonical.Canonical.{CanonicalArchive}
-use Rattle.archive_forms_values.specs.ShapeCanonical.FirstFit.{first_fit}
-use Rattle.archive_forms_values.specs.ShapeCanonical.Hash.{text_hash}
+use Rattle.archive_shape_layout.specs.Value.{Value}
+use Rattle.archive_shape_layout.specs.Holds.{Region, Visit, root_position}
+use Rattle.archive_shape_canonical.specs.Canonical.{CanonicalArchive}
+use Rattle.archive_shape_canonical.specs.FirstFit.{first_fit}
+use Rattle.archive_shape_canonical.specs.Hash.{text_hash}
 use Rattle.cabinet_text_grammar.specs.Tree.{Tree}
 use Rattle.cabinet_text_grammar.specs.Wholes.{IsDocument}
 use Rattle.cabinet_documents.specs.Audit.{root_part}

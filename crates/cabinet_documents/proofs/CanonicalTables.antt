@@ -1,27 +1,27 @@
 -- The tables of maps in the walk of a canonical archive are filled by first fit.
 use Rattle.std.proofs.Common.{◌≡◌, ℕ, zero, suc, ◌+◌, ◌<◌, ◌≤◌, List, [], ◌∷◌, length, Some, refl, sym, ap, ap₂, subst, ◌∙◌, arith}
 use Rattle.std.specs.Prelude.{⊤}
-use Rattle.archive_forms_values.specs.ShapeLayout.Bytes.{window, word_at}
-use Rattle.archive_forms_values.specs.ShapeLayout.Shape.{Shape}
-use Rattle.archive_forms_values.specs.ShapeLayout.Shape.Shape.{table, index_map}
-use Rattle.archive_forms_values.specs.ShapeLayout.Shape.Pointee.{slice}
+use Rattle.archive_shape_layout.specs.Bytes.{window, word_at}
+use Rattle.archive_shape_layout.specs.Shape.{Shape}
+use Rattle.archive_shape_layout.specs.Shape.Shape.{table, index_map}
+use Rattle.archive_shape_layout.specs.Shape.Pointee.{slice}
 use Rattle.archive_forms_values.specs.Tuples.{tuple2}
-use Rattle.archive_forms_values.specs.ShapeLayout.Value.{Value, Values, count_values}
-use Rattle.archive_forms_values.specs.ShapeLayout.Value.Value.{string, group}
-use Rattle.archive_forms_values.specs.ShapeLayout.Value.Values.{no_values, more_values}
-use Rattle.archive_forms_values.specs.ShapeLayout.Content.{Part, Label, content_of, made, members, item, place, control_count}
-use Rattle.archive_forms_values.specs.ShapeLayout.Content.Part.{at, behind, buckets}
-use Rattle.archive_forms_values.specs.ShapeLayout.Content.Label.{same, second, whole}
-use Rattle.archive_forms_values.specs.ShapeLayout.Holds.HoldAll.{holds_none}
-use Rattle.archive_forms_values.specs.ShapeCanonical.FirstFit.{ascending, controls_of, first_fit, items_of, keys_in, map_capacity, numbers_of, placed_keys, text_key}
-use Rattle.archive_forms_values.specs.ShapeCanonical.Hash.{text_hash}
-use Rattle.archive_forms_values.specs.ShapeCanonical.Seen.{key_alone, keys_alone, by_keys}
-use Rattle.archive_forms_values.specs.ShapeCanonical.Settled.{IsSettled, naturals}
-use Rattle.archive_forms_values.specs.ShapeCanonical.Settled.{IsFitted as IsTableFitted}
-use Rattle.archive_forms_values.specs.ShapeCanonical.Sharing.{erased, all_erased}
+use Rattle.archive_shape_layout.specs.Value.{Value, Values, count_values}
+use Rattle.archive_shape_layout.specs.Value.Value.{string, group}
+use Rattle.archive_shape_layout.specs.Value.Values.{no_values, more_values}
+use Rattle.archive_shape_layout.specs.Content.{Part, Label, content_of, made, members, item, place, control_count}
+use Rattle.archive_shape_layout.specs.Content.Part.{at, behind, buckets}
+use Rattle.archive_shape_layout.specs.Content.Label.{same, second, whole}
+use Rattle.archive_shape_layout.specs.Holds.HoldAll.{holds_none}
+use Rattle.archive_shape_canonical.specs.FirstFit.{ascending, controls_of, first_fit, items_of, keys_in, map_capacity, numbers_of, placed_keys, text_key}
+use Rattle.archive_shape_canonical.specs.Hash.{text_hash}
+use Rattle.archive_shape_canonical.specs.Seen.{key_alone, keys_alone, by_keys}
+use Rattle.archive_shape_canonical.specs.Settled.{IsSettled, naturals}
+use Rattle.archive_shape_canonical.specs.Settled.{IsFitted as IsTableFitted}
+use Rattle.archive_shape_canonical.specs.Sharing.{erased, all_erased}
 use Rattle.archive_forms_values.proofs.Pointed.{made_whole}
 use Rattle.archive_hash_writing.proofs.SpellingFitting.{capacity_above}
-use Rattle.archive_index_spelling.proofs.Maps.{numbers_alone}
+use Rattle.archive_hash_writing.proofs.IndexMaps.{numbers_alone}
 use Rattle.cabinet_documents.specs.Fitted.{AreFirstFit}
 use Rattle.cabinet_documents.specs.Node.{node_names}
 use Rattle.cabinet_documents.specs.Table.{Table, Findable, empty_table, hashed_at, kept_at, item_keys, key_of, table_of}

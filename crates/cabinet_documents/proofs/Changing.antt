@@ -1,11 +1,11 @@
 -- Putting a leaf in a node's value puts it in the document.
 use Rattle.std.proofs.Common.{◌≡◌, ℕ, ℤ, Bool, zero, suc, true, false, cond, List, [], ◌∷◌, ◌++◌, Option, Some, refl, sym, ap, subst, ◌∙◌, ◌<◌, arith, ◌⊎◌, inl, inr, ◌≢◌}
 use Rattle.std.specs.Str.{bytes_eq}
-use Rattle.archive_forms_values.specs.ShapeLayout.Value.{Value, Values}
-use Rattle.archive_forms_values.specs.ShapeLayout.Value.Value.{boolean, integer, string, group, counted}
-use Rattle.archive_forms_values.specs.ShapeLayout.Value.Values.{no_values}
-use Rattle.archive_forms_values.specs.ShapeLayout.Path.{put_at, value_in}
-use Rattle.archive_forms_values.specs.ShapeLayout.Path as layout
+use Rattle.archive_shape_layout.specs.Value.{Value, Values}
+use Rattle.archive_shape_layout.specs.Value.Value.{boolean, integer, string, group, counted}
+use Rattle.archive_shape_layout.specs.Value.Values.{no_values}
+use Rattle.archive_shape_layout.specs.Path.{put_at, value_in}
+use Rattle.archive_shape_layout.specs.Path as layout
 use Rattle.cabinet_text_grammar.specs.Keys.{MapKind, ordered, hashed, kept}
 use Rattle.cabinet_text_grammar.specs.Tree.{Leaf, truth, number, text}
 use Rattle.cabinet_text_grammar.specs.Path.{Step, key, place, inside}

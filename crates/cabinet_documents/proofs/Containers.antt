@@ -1,10 +1,10 @@
 -- What the part at each place is to a walk: whether it is a container, and what the keys of its map say of it.
 use Rattle.std.proofs.Common.{◌≡◌, ℕ, zero, suc, ◌+◌, ◌-◌, ◌*◌, nat_lt, max, Bool, true, false, cond, List, [], ◌∷◌, ◌++◌, length, take, refl, sym, ap, ◌∙◌, arith}
 use Rattle.std.specs.Prelude.{⊤}
-use Rattle.archive_forms_values.specs.ShapeLayout.Bytes.{window}
-use Rattle.archive_forms_values.specs.ShapeLayout.Value.{Value, count_values}
-use Rattle.archive_forms_values.specs.ShapeLayout.Value.Value.{group}
-use Rattle.archive_forms_values.specs.ShapeLayout.Content.{members, control_count}
+use Rattle.archive_shape_layout.specs.Bytes.{window}
+use Rattle.archive_shape_layout.specs.Value.{Value, count_values}
+use Rattle.archive_shape_layout.specs.Value.Value.{group}
+use Rattle.archive_shape_layout.specs.Content.{members, control_count}
 use Rattle.cabinet_documents.specs.Order.{ascend}
 use Rattle.cabinet_documents.specs.Table.{item_keys, full_from, Findable, table_of, hashed_at, kept_at}
 use Rattle.cabinet_documents.specs.Walk.{Stop, is_container}

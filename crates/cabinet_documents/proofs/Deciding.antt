@@ -1,6 +1,6 @@
 -- The audit decides whether bytes at whose root a node holds are the archive of a document.
 use Rattle.std.proofs.Common.{length, refl}
-use Rattle.archive_forms_values.specs.ShapeLayout.Holds.{root_position}
+use Rattle.archive_shape_layout.specs.Holds.{root_position}
 use Rattle.cabinet_documents.specs.Node.{node_shape, node_names}
 use Rattle.cabinet_documents.specs.Laws.{AuditDecides}
 use Rattle.cabinet_documents.proofs.Walkable.{walk_stands_law}

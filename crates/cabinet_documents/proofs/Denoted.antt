@@ -1,6 +1,6 @@
 -- A node's value denotes one document.
 use Rattle.std.proofs.Common.{◌≡◌, sym, subst}
-use Rattle.archive_forms_values.specs.ShapeLayout.Value.{Value, Values}
+use Rattle.archive_shape_layout.specs.Value.{Value, Values}
 use Rattle.cabinet_text_grammar.specs.Tree.{Tree, Trees, Pairs}
 use Rattle.cabinet_documents.specs.Denotes.{Denotes, DenoteAll, DenotePairs}
 use Rattle.cabinet_documents.specs.Denotes.Denotes.{denotes_truth, denotes_number, denotes_text, denotes_shared, denotes_nothing, denotes_some, denotes_list, denotes_ordered, denotes_hashed, denotes_kept, denotes_whole}

@@ -1,20 +1,20 @@
 -- Writing a leaf over own bytes keeps the bytes an archive of a document.
 use Rattle.std.proofs.Common.{◌≡◌, ℕ, List, [], ◌∷◌, ◌++◌, length, Option, Some, true, IsUtf8, refl, sym, ap, subst, ◌∙◌}
-use Rattle.archive_forms_values.specs.ShapeLayout.Shape.{Shape}
-use Rattle.archive_forms_values.specs.ShapeLayout.Shape.Shape.{text as text_shape}
-use Rattle.archive_forms_values.specs.ShapeLayout.Shape.Pointee.{sized}
-use Rattle.archive_forms_values.specs.ShapeLayout.Value.{Value}
-use Rattle.archive_forms_values.specs.ShapeLayout.Value.Value.{string}
-use Rattle.archive_forms_values.specs.ShapeLayout.Content.{Part, made}
-use Rattle.archive_forms_values.specs.ShapeLayout.Content.Part.{at, behind}
-use Rattle.archive_forms_values.specs.ShapeLayout.Content.Label.{written, leaf as leaf_label}
-use Rattle.archive_forms_values.specs.ShapeLayout.Holds.{Region, Visit, Ascends, HasRoot, root_position}
-use Rattle.archive_forms_values.specs.ShapeLayout.Path.{put_at, value_at, and_then}
-use Rattle.archive_forms_values.proofs.ShapeLayout.Stood.{stands_value}
-use Rattle.archive_forms_values.specs.ShapeCanonical.Laws.{AvoidsKeys}
-use Rattle.archive_forms_values.specs.ArchiveShape.Bytes.{overwrite}
-use Rattle.archive_forms_values.specs.ArchiveShape.Sealing.{StandsInRoot}
-use Rattle.archive_forms_values.proofs.ArchiveShape.Written.{length-overwrite, overwrite_spares_law}
+use Rattle.archive_shape_layout.specs.Shape.{Shape}
+use Rattle.archive_shape_layout.specs.Shape.Shape.{text as text_shape}
+use Rattle.archive_shape_layout.specs.Shape.Pointee.{sized}
+use Rattle.archive_shape_layout.specs.Value.{Value}
+use Rattle.archive_shape_layout.specs.Value.Value.{string}
+use Rattle.archive_shape_layout.specs.Content.{Part, made}
+use Rattle.archive_shape_layout.specs.Content.Part.{at, behind}
+use Rattle.archive_shape_layout.specs.Content.Label.{written, leaf as leaf_label}
+use Rattle.archive_shape_layout.specs.Holds.{Region, Visit, Ascends, HasRoot, root_position}
+use Rattle.archive_shape_layout.specs.Path.{put_at, value_at, and_then}
+use Rattle.archive_shape_layout.proofs.Stood.{stands_value}
+use Rattle.archive_shape_canonical.specs.Laws.{AvoidsKeys}
+use Rattle.archive_shape.specs.Bytes.{overwrite}
+use Rattle.archive_shape.specs.Sealing.{StandsInRoot}
+use Rattle.archive_shape.proofs.Written.{length-overwrite, overwrite_spares_law}
 use Rattle.cabinet_text_grammar.specs.Tree.{Leaf, Tree, leaf, IsLeaf}
 use Rattle.cabinet_text_grammar.specs.Wholes.{IsDocument}
 use Rattle.cabinet_text_grammar.specs.Path.{Step, node_at}

@@ -2,24 +2,24 @@
 use Rattle.std.proofs.Common.{◌≡◌, ℕ, zero, suc, ◌+◌, ◌-◌, ◌*◌, ◌<◌, ◌&&◌, ◌==◌, Bool, true, false, cond, nat_le, nat_lt, List, [], ◌∷◌, take, map, Some, refl, sym, ap, ap₂, subst, ◌∙◌, arith, ltb-true}
 use Rattle.std.specs.Prelude.{⊤}
 use Rattle.std.specs.List.{Contains, count_by}
-use Rattle.archive_forms_values.specs.ShapeLayout.Bytes.{window, word_at}
-use Rattle.archive_forms_values.specs.ShapeLayout.Shape.{Shape, align_of, size_of}
-use Rattle.archive_forms_values.specs.ShapeLayout.Shape.Pointee.{slice}
-use Rattle.archive_forms_values.specs.ShapeLayout.Value.{Value, Values, count_values}
-use Rattle.archive_forms_values.specs.ShapeLayout.Value.Value.{natural, group}
-use Rattle.archive_forms_values.specs.ShapeLayout.Value.Values.{no_values, more_values}
-use Rattle.archive_forms_values.specs.ShapeLayout.Content.{Names, Part, content_of, choose, made, members, place, control_count, wraps, buckets_span, buckets_content, place_content, pointee_content, tagged_items, elements}
-use Rattle.archive_forms_values.specs.ShapeLayout.Content.Part.{behind, buckets, place_at}
-use Rattle.archive_forms_values.specs.ShapeLayout.Content.Label.{leaf, second, whole}
-use Rattle.archive_forms_values.specs.ShapeLayout.Content.Content.{illegal, plain, claimed}
-use Rattle.archive_forms_values.specs.ShapeLayout.Holds.{Region, Visit, OpenShared, Holds, HoldAll}
-use Rattle.archive_forms_values.specs.ShapeLayout.Holds.HoldAll.{holds_none, holds_more}
-use Rattle.archive_forms_values.specs.ShapeLayout.Path.{value_in}
-use Rattle.archive_forms_values.specs.ShapeCanonical.Settled.{naturals}
-use Rattle.archive_forms_values.proofs.ArchiveShape.Inverted.{IsKnown, held_is_known}
+use Rattle.archive_shape_layout.specs.Bytes.{window, word_at}
+use Rattle.archive_shape_layout.specs.Shape.{Shape, align_of, size_of}
+use Rattle.archive_shape_layout.specs.Shape.Pointee.{slice}
+use Rattle.archive_shape_layout.specs.Value.{Value, Values, count_values}
+use Rattle.archive_shape_layout.specs.Value.Value.{natural, group}
+use Rattle.archive_shape_layout.specs.Value.Values.{no_values, more_values}
+use Rattle.archive_shape_layout.specs.Content.{Names, Part, content_of, choose, made, members, place, control_count, wraps, buckets_span, buckets_content, place_content, pointee_content, tagged_items, elements}
+use Rattle.archive_shape_layout.specs.Content.Part.{behind, buckets, place_at}
+use Rattle.archive_shape_layout.specs.Content.Label.{leaf, second, whole}
+use Rattle.archive_shape_layout.specs.Content.Content.{illegal, plain, claimed}
+use Rattle.archive_shape_layout.specs.Holds.{Region, Visit, OpenShared, Holds, HoldAll}
+use Rattle.archive_shape_layout.specs.Holds.HoldAll.{holds_none, holds_more}
+use Rattle.archive_shape_layout.specs.Path.{value_in}
+use Rattle.archive_shape_canonical.specs.Settled.{naturals}
+use Rattle.archive_shape.proofs.Inverted.{IsKnown, held_is_known}
 use Rattle.archive_forms_values.proofs.Pointed.{made_whole}
-use Rattle.archive_forms_values.proofs.ShapeLayout.Unique.{by_plain, by_claimed}
-use Rattle.archive_forms_values.proofs.ShapeLayout.Windows.{word_of}
+use Rattle.archive_shape_layout.proofs.Unique.{by_plain, by_claimed}
+use Rattle.archive_shape_layout.proofs.Windows.{word_of}
 use Rattle.cabinet_documents.specs.Table.{full_from}
 use Rattle.cabinet_documents.proofs.Tables.{full_places, number_at, numbers_at}
 use Rattle.cabinet_documents.proofs.Walkable.{PartsHold, parts_hold}

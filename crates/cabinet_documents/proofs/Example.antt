@@ -1,20 +1,20 @@
 -- The number five is accepted: 24 bytes.
 use Rattle.std.proofs.Common.{ℕ, zero, suc, true, List, [], ◌∷◌, refl, subst, arith, pos}
 use Rattle.std.specs.List.{Contains}
-use Rattle.archive_forms_values.specs.ShapeLayout.Bytes.{align_up, word_at, target_from}
-use Rattle.archive_forms_values.specs.ShapeLayout.Content.{choose, made, fields, elements, text_length, following, number_value, text_content, shared_content, table_parts, shape_content, pointee_content}
+use Rattle.archive_shape_layout.specs.Bytes.{align_up, word_at, target_from}
+use Rattle.archive_shape_layout.specs.Content.{choose, made, fields, elements, text_length, following, number_value, text_content, shared_content, table_parts, shape_content, pointee_content}
 use Rattle.std.specs.Int.{w64}
-use Rattle.archive_forms_values.specs.ShapeLayout.Value.{Value}
-use Rattle.archive_forms_values.specs.ShapeLayout.Value.Value.{integer, chosen}
-use Rattle.archive_forms_values.specs.ShapeLayout.Value.Values.{no_values, more_values}
-use Rattle.archive_forms_values.specs.ShapeLayout.Shape.Shape.{number, choice}
-use Rattle.archive_forms_values.specs.ShapeLayout.Shape.Pointee.{sized}
-use Rattle.archive_forms_values.specs.ShapeLayout.Content.{Part}
-use Rattle.archive_forms_values.specs.ShapeLayout.Content.Part.{at, behind}
+use Rattle.archive_shape_layout.specs.Value.{Value}
+use Rattle.archive_shape_layout.specs.Value.Value.{integer, chosen}
+use Rattle.archive_shape_layout.specs.Value.Values.{no_values, more_values}
+use Rattle.archive_shape_layout.specs.Shape.Shape.{number, choice}
+use Rattle.archive_shape_layout.specs.Shape.Pointee.{sized}
+use Rattle.archive_shape_layout.specs.Content.{Part}
+use Rattle.archive_shape_layout.specs.Content.Part.{at, behind}
 use Rattle.cabinet_documents.specs.Node.{node_shape, payloads}
-use Rattle.archive_forms_values.specs.ShapeLayout.Holds.{Ascends, root_position}
-use Rattle.archive_forms_values.specs.ShapeLayout.Holds.Holds.{holds_plain, holds_claimed}
-use Rattle.archive_forms_values.specs.ShapeLayout.Holds.HoldAll.{holds_none, holds_more}
+use Rattle.archive_shape_layout.specs.Holds.{Ascends, root_position}
+use Rattle.archive_shape_layout.specs.Holds.Holds.{holds_plain, holds_claimed}
+use Rattle.archive_shape_layout.specs.Holds.HoldAll.{holds_none, holds_more}
 use Rattle.cabinet_documents.specs.Denotes.Denotes.{denotes_number}
 use Rattle.cabinet_documents.specs.Walk.{Stop}
 use Rattle.cabinet_documents.specs.Walk.Walks.{walks}

@@ -5,12 +5,12 @@ use Rattle.std.specs.List.{AllByRecursion, IsDistinct, list_any}
 use Rattle.std.proofs.lemmas.Bool.{false≢true, or_left}
 use Rattle.std.proofs.lemmas.Bool.Decides.{eqb_tells}
 use Rattle.std.proofs.lemmas.Map.Steps.{length-le_from_distinct_below}
-use Rattle.archive_forms_values.specs.ShapeLayout.Value.{Value, Values}
-use Rattle.archive_forms_values.specs.ShapeLayout.Holds.{Region, region_of, Visit, visited, Ascends, Holds, HasRoot, root_position}
-use Rattle.archive_forms_values.specs.ShapeLayout.Holds.Holds.{holds_plain, holds_claimed, holds_first, holds_later, holds_back}
-use Rattle.archive_forms_values.specs.ShapeLayout.Content.{pointee_content}
-use Rattle.archive_forms_values.specs.ShapeLayout.Content.Part.{behind}
-use Rattle.archive_forms_values.specs.ShapeLayout.Shape.Pointee.{sized}
+use Rattle.archive_shape_layout.specs.Value.{Value, Values}
+use Rattle.archive_shape_layout.specs.Holds.{Region, region_of, Visit, visited, Ascends, Holds, HasRoot, root_position}
+use Rattle.archive_shape_layout.specs.Holds.Holds.{holds_plain, holds_claimed, holds_first, holds_later, holds_back}
+use Rattle.archive_shape_layout.specs.Content.{pointee_content}
+use Rattle.archive_shape_layout.specs.Content.Part.{behind}
+use Rattle.archive_shape_layout.specs.Shape.Pointee.{sized}
 use Rattle.cabinet_text_grammar.specs.Keys.{ordered, hashed, kept}
 use Rattle.cabinet_text_grammar.specs.Tree.{Tree, leaf, shared, nothing, just, list, map, whole, Trees, no_trees, more_trees, Pairs, no_pairs, more_pairs}
 use Rattle.cabinet_text_grammar.specs.Wholes.{has, with_tree, with_wholes, with_wholes_in, with_wholes_by, wholes_of, IsTable}

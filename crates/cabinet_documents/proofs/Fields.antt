@@ -6,25 +6,25 @@ use Rattle.std.proofs.lemmas.Bool.{cases_lt, leb-true}
 use Rattle.std.proofs.lemmas.Bool.Decides.{eqb_tells, nat_tests}
 use Rattle.std.proofs.lemmas.Int.{ints}
 use Rattle.std.proofs.lemmas.List.{length-replicate}
-use Rattle.archive_forms_values.specs.ShapeLayout.Bytes.{align_up}
-use Rattle.archive_forms_values.specs.ShapeLayout.Shape.{Pointee}
-use Rattle.archive_forms_values.specs.ShapeLayout.Shape.Pointee.{str}
-use Rattle.archive_forms_values.specs.ShapeLayout.Value.{Value}
-use Rattle.archive_forms_values.specs.ShapeLayout.Value.Value.{string}
-use Rattle.archive_forms_values.specs.ShapeLayout.Holds.{Visit}
-use Rattle.archive_forms_values.specs.ShapeWriting.declared.error.Error.{Error}
-use Rattle.archive_forms_values.specs.ShapeWriting.declared.error.Error.TheVariants.{PositionTooLarge}
-use Rattle.archive_forms_values.specs.ShapeCanonical.Sharing.{end_of_shared}
-use Rattle.archive_forms_values.specs.ShapeCanonical.Plan.{Plan, flat, parts, leads, leads_to_text, Target, Plans}
-use Rattle.archive_forms_values.specs.ShapeCanonical.Limits.{Field, offset, position, count, text_length, IsSomePast, Shared, moved, IsUnmet, IsMetAt, Lies, lies_flat, lies_parts, lies_leads, lies_text, lies_first, lies_later, LieAll, lie_none, lie_more}
-use Rattle.archive_forms_values.specs.ShapeCanonical.Limits as limits
-use Rattle.archive_forms_values.specs.ArchiveShape.Offsets.{difference, FitsOffset}
-use Rattle.archive_forms_values.specs.ArchiveShape.Bytes.{zeros}
-use Rattle.archive_forms_values.specs.FormsLaws.State.{State, Met, visit_of_key, IsNoneOf, IsOneOf}
-use Rattle.archive_forms_values.specs.FormsLaws.Spelling.{Spelling}
-use Rattle.archive_forms_values.specs.FormsLaws.Texts.{is_short, text_piece, text_own, text_resolver, text_piece_refused, text_own_refused, boxed_text_spelling}
-use Rattle.archive_forms_values.specs.FormsLaws.Shared.{shared_padding, first_visit, shared_piece, shared_resolver, shared_met, shared_refused}
-use Rattle.archive_forms_rc.specs.FormsWriting.Owned.{str_spelling}
+use Rattle.archive_shape_layout.specs.Bytes.{align_up}
+use Rattle.archive_shape_layout.specs.Shape.{Pointee}
+use Rattle.archive_shape_layout.specs.Shape.Pointee.{str}
+use Rattle.archive_shape_layout.specs.Value.{Value}
+use Rattle.archive_shape_layout.specs.Value.Value.{string}
+use Rattle.archive_shape_layout.specs.Holds.{Visit}
+use Rattle.archive_shape_layout.specs.declared.error.Error.{Error}
+use Rattle.archive_shape_layout.specs.declared.error.Error.TheVariants.{PositionTooLarge}
+use Rattle.archive_shape_canonical.specs.Sharing.{end_of_shared}
+use Rattle.archive_shape_canonical.specs.Plan.{Plan, flat, parts, leads, leads_to_text, Target, Plans}
+use Rattle.archive_shape_canonical.specs.Limits.{Field, offset, position, count, text_length, IsSomePast, Shared, moved, IsUnmet, IsMetAt, Lies, lies_flat, lies_parts, lies_leads, lies_text, lies_first, lies_later, LieAll, lie_none, lie_more}
+use Rattle.archive_shape_canonical.specs.Limits as limits
+use Rattle.archive_shape.specs.Offsets.{difference, FitsOffset}
+use Rattle.archive_shape.specs.Bytes.{zeros}
+use Rattle.archive_forms_laws.specs.State.{State, Met, visit_of_key, IsNoneOf, IsOneOf}
+use Rattle.archive_forms_laws.specs.Spelling.{Spelling}
+use Rattle.archive_forms_laws.specs.Texts.{is_short, text_piece, text_own, text_resolver, text_piece_refused, text_own_refused, boxed_text_spelling}
+use Rattle.archive_forms_laws.specs.Shared.{shared_padding, first_visit, shared_piece, shared_resolver, shared_met, shared_refused}
+use Rattle.archive_forms_writing.specs.Owned.{str_spelling}
 use Rattle.cabinet_documents.specs.SharedKeys.{key_of_text}
 use Rattle.cabinet_documents.specs.Spelling.{shared_string_spelling}
 use Rattle.cabinet_documents.proofs.Values.{shared_string}

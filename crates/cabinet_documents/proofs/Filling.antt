@@ -1,14 +1,14 @@
 -- First fit gives the pairs of a document's hashed map the places where they are written, and kept maps as many places.
 use Rattle.std.proofs.Common.{◌≡◌, ℕ, ◌<◌, List, [], ◌∷◌, map, length, refl, sym, ap, ◌∙◌, arith}
 use Rattle.std.proofs.lemmas.List.{length-map}
-use Rattle.archive_forms_values.specs.ShapeLayout.Value.{Values}
-use Rattle.archive_forms_values.specs.ShapeLayout.Value.Value.{string, group}
-use Rattle.archive_forms_values.specs.ShapeLayout.Value.Values.{no_values, more_values}
-use Rattle.archive_forms_values.specs.ShapeCanonical.FirstFit.{ascending, first_fit}
-use Rattle.archive_forms_values.specs.ShapeCanonical.Hash.{text_hash}
-use Rattle.archive_forms_values.specs.ShapeCanonical.Seen.{keys_alone}
-use Rattle.archive_forms_values.specs.FormsLaws.Regions.{plain_values}
-use Rattle.archive_forms_values.specs.FormsLaws.Views.{listed}
+use Rattle.archive_shape_layout.specs.Value.{Values}
+use Rattle.archive_shape_layout.specs.Value.Value.{string, group}
+use Rattle.archive_shape_layout.specs.Value.Values.{no_values, more_values}
+use Rattle.archive_shape_canonical.specs.FirstFit.{ascending, first_fit}
+use Rattle.archive_shape_canonical.specs.Hash.{text_hash}
+use Rattle.archive_shape_canonical.specs.Seen.{keys_alone}
+use Rattle.archive_forms_laws.specs.Regions.{plain_values}
+use Rattle.archive_forms_laws.specs.Views.{listed}
 use Rattle.archive_hash_writing.specs.Fitted.{by_place}
 use Rattle.archive_hash_writing.proofs.FirstFitted.{filled_by}
 use Rattle.archive_hash_writing.proofs.Small.{text_hashes_small}

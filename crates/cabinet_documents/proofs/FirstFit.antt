@@ -1,12 +1,12 @@
 -- The pairs of a hashed map in the order of their places by first fit.
 use Rattle.std.proofs.Common.{◌≡◌, ℕ, List, [], ◌∷◌, length, map, refl, sym, ap, ap₂, ◌∙◌, arith}
-use Rattle.archive_forms_values.specs.ShapeLayout.Value.{Value, Values, count_values}
-use Rattle.archive_forms_values.specs.ShapeLayout.Value.Values.{no_values, more_values}
-use Rattle.archive_forms_values.specs.ShapeCanonical.FirstFit.{fitted_from, keys_in, map_capacity, places_of, placed, present, text_key}
-use Rattle.archive_forms_values.specs.ShapeCanonical.Hash.{text_hash}
-use Rattle.archive_forms_values.specs.FormsLaws.Spelling.{Spelling}
-use Rattle.archive_forms_values.specs.FormsLaws.Regions.{plain_values}
-use Rattle.archive_forms_values.specs.FormsLaws.Views.{listed}
+use Rattle.archive_shape_layout.specs.Value.{Value, Values, count_values}
+use Rattle.archive_shape_layout.specs.Value.Values.{no_values, more_values}
+use Rattle.archive_shape_canonical.specs.FirstFit.{fitted_from, keys_in, map_capacity, places_of, placed, present, text_key}
+use Rattle.archive_shape_canonical.specs.Hash.{text_hash}
+use Rattle.archive_forms_laws.specs.Spelling.{Spelling}
+use Rattle.archive_forms_laws.specs.Regions.{plain_values}
+use Rattle.archive_forms_laws.specs.Views.{listed}
 use Rattle.archive_hash_writing.specs.Fitted.{by_place}
 use Rattle.archive_hash_writing.proofs.Placed.{placed_mapped}
 

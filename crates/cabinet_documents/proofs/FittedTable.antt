@@ -5,15 +5,15 @@ use Rattle.std.specs.List.{Contains, range_with_len}
 use Rattle.std.proofs.lemmas.Bool.{ne_eqb}
 use Rattle.std.proofs.lemmas.List.{length-map}
 use Rattle.std.proofs.lemmas.List.FromFn.{length-range_with_len, get_or-range_with_len, length-map-range_with_len, get_or-map-range_with_len}
-use Rattle.archive_forms_values.specs.ShapeCanonical.FirstFit.{controls_of, item_at, map_capacity, numbers_of, placed, placed_keys, places_of, present}
-use Rattle.archive_forms_values.specs.ShapeCanonical.Hash.{text_hash}
-use Rattle.archive_forms_values.specs.ShapeCanonical.Reach.{Reaches}
+use Rattle.archive_shape_canonical.specs.FirstFit.{controls_of, item_at, map_capacity, numbers_of, placed, placed_keys, places_of, present}
+use Rattle.archive_shape_canonical.specs.Hash.{text_hash}
+use Rattle.archive_shape_canonical.specs.Reach.{Reaches}
 use Rattle.archive_hash_writing.proofs.ItemPlaces.{IsFoundAt, found_at, keys_tagged}
 use Rattle.archive_hash_writing.proofs.Small.{text_hash_small, text_hashes_small}
 use Rattle.archive_hash_writing.proofs.SpellingFitting.{above, length-places, places_below, are_apart}
 use Rattle.archive_hash_writing.proofs.SpellingPresent.{item_own}
 use Rattle.archive_hash_writing.proofs.Tagged.{AreTagged, written_tagged}
-use Rattle.archive_index_spelling.proofs.Kept.{numbers_placed}
+use Rattle.archive_hash_writing.proofs.IndexKept.{numbers_placed}
 use Rattle.cabinet_documents.specs.Table.{Slot, Entry, Table, Findable, entry_of, full_from, hashed_slots, numbered, slot_at, tag_of}
 use Rattle.cabinet_documents.proofs.Arranged.{same_keys}
 use Rattle.cabinet_documents.proofs.ByKey.{IsNewKey, AreKeysDistinct}

@@ -1,14 +1,14 @@
 -- The value of a node in a canonical archive has the pairs of its hashed maps in the order of first fit.
 use Rattle.std.proofs.Common.{◌≡◌, ℕ, zero, suc, ◌==◌, Bool, true, false, cond, List, [], ◌∷◌, Some, None, refl, sym, ap, subst, ◌∙◌, arith}
 use Rattle.std.specs.Prelude.{⊤}
-use Rattle.archive_forms_values.specs.ShapeLayout.Value.{Value, Values, count_values}
-use Rattle.archive_forms_values.specs.ShapeLayout.Value.Value.{natural, integer, boolean, string, group, chosen, counted}
-use Rattle.archive_forms_values.specs.ShapeLayout.Value.Values.{no_values, more_values}
-use Rattle.archive_forms_values.specs.ShapeLayout.Shape.Pointee.{sized, str}
-use Rattle.archive_forms_values.specs.ShapeLayout.Shape.{Pointee}
-use Rattle.archive_forms_values.specs.ShapeLayout.Content.{Part, Label, content_of, made, members, weave, first_values, other_values}
-use Rattle.archive_forms_values.specs.ShapeLayout.Content.Label.{same, second, whole, tagged, woven, total}
-use Rattle.archive_forms_values.specs.ShapeLayout.Content.Content.{illegal, counting}
+use Rattle.archive_shape_layout.specs.Value.{Value, Values, count_values}
+use Rattle.archive_shape_layout.specs.Value.Value.{natural, integer, boolean, string, group, chosen, counted}
+use Rattle.archive_shape_layout.specs.Value.Values.{no_values, more_values}
+use Rattle.archive_shape_layout.specs.Shape.Pointee.{sized, str}
+use Rattle.archive_shape_layout.specs.Shape.{Pointee}
+use Rattle.archive_shape_layout.specs.Content.{Part, Label, content_of, made, members, weave, first_values, other_values}
+use Rattle.archive_shape_layout.specs.Content.Label.{same, second, whole, tagged, woven, total}
+use Rattle.archive_shape_layout.specs.Content.Content.{illegal, counting}
 use Rattle.cabinet_documents.specs.Denotes.{tagged_value}
 use Rattle.cabinet_documents.specs.Fitted.{IsFitted, AreFitted, ArePairsFitted, AreFirstFit}
 use Rattle.cabinet_documents.specs.Fitted.IsFitted.{leaf_is_fitted, nothing_is_fitted, some_is_fitted, list_is_fitted, ordered_is_fitted, hashed_is_fitted, kept_is_fitted, whole_is_fitted}

@@ -1,8 +1,8 @@
 -- The parts of a value whose hashed maps are in the order of first fit are such values.
 use Rattle.std.proofs.Common.{◌≡◌, ℕ, List, subst, arith}
-use Rattle.archive_forms_values.specs.ShapeLayout.Value.{Value, Values}
-use Rattle.archive_forms_values.specs.ShapeLayout.Value.Value.{group, counted}
-use Rattle.archive_forms_values.specs.ShapeLayout.Value.Values.{more_values}
+use Rattle.archive_shape_layout.specs.Value.{Value, Values}
+use Rattle.archive_shape_layout.specs.Value.Value.{group, counted}
+use Rattle.archive_shape_layout.specs.Value.Values.{more_values}
 use Rattle.cabinet_documents.specs.Denotes.{tagged_value, pair_value}
 use Rattle.cabinet_documents.specs.Fitted.{IsFitted, AreFitted, ArePairsFitted, AreFirstFit}
 use Rattle.cabinet_documents.specs.Fitted.IsFitted.{leaf_is_fitted, nothing_is_fitted, some_is_fitted, list_is_fitted, ordered_is_fitted, hashed_is_fitted, kept_is_fitted, whole_is_fitted}

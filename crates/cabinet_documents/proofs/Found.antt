@@ -9,8 +9,8 @@ use Rattle.std.specs.Cmp.Lexicographic.{slice_cmp, nat_list_cmp_total}
 use Rattle.cabinet_documents.specs.Order.{is_same}
 use Rattle.cabinet_documents.specs.Table.{Slot, Entry, Table, Findable, entry_of, slot_at, key_reach, tag_of, has_key, answers, found, is_numbered, gives}
 use Rattle.cabinet_documents.specs.Audit.{unless, wrong_tag, not_found, tag_faults, search_faults, hashed_faults, kept_faults}
-use Rattle.archive_forms_values.proofs.FormsLaws.ShapeCanonical.CleanTests.{either_true}
-use Rattle.archive_forms_values.proofs.ShapeLayout.SameShape.{both_right}
+use Rattle.archive_shape_canonical.proofs.CleanTests.{either_true}
+use Rattle.archive_shape_layout.proofs.SameShape.{both_right}
 
 -- ---- lists
 

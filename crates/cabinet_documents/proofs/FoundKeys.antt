@@ -2,8 +2,8 @@
 use Rattle.std.proofs.Common.{◌≡◌, ℕ, zero, suc, ◌==◌, Bool, true, false, cond, List, [], ◌∷◌, ◌++◌, slice_index, map, Option, Some, None, refl, sym, ap, subst, ◌∙◌, arith, eqb-true}
 use Rattle.std.specs.List.{find, flat_map, list_any, Contains}
 use Rattle.std.proofs.lemmas.Bool.{and_parts}
-use Rattle.archive_forms_values.specs.ShapeCanonical.Hash.{text_hash}
-use Rattle.archive_forms_values.specs.ShapeCanonical.Reach.{Reaches}
+use Rattle.archive_shape_canonical.specs.Hash.{text_hash}
+use Rattle.archive_shape_canonical.specs.Reach.{Reaches}
 use Rattle.cabinet_documents.specs.Order.{is_same}
 use Rattle.cabinet_documents.specs.Table.{Slot, Entry, Table, Findable, IsReached, entry_of, slot_at, key_reach, tag_of, has_key, answers, found, is_numbered, gives}
 use Rattle.cabinet_documents.specs.Audit.{Unsound, unless, wrong_tag, not_found, tag_faults, search_faults, hashed_faults, kept_faults}

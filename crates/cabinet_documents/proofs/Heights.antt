@@ -2,10 +2,10 @@
 -- maps.
 use Rattle.std.proofs.Common.{◌≡◌, ℕ, zero, suc, ◌+◌, max, true, List, [], refl, sym, ap, subst, ◌∙◌, arith}
 use Rattle.std.specs.Prelude.{⊤}
-use Rattle.archive_forms_values.specs.ShapeLayout.Value.{Value, Values, append_values, count_values}
-use Rattle.archive_forms_values.specs.ShapeLayout.Value.Value.{natural, integer, boolean, string, group, chosen, counted, back}
-use Rattle.archive_forms_values.specs.ShapeLayout.Value.Values.{no_values, more_values}
-use Rattle.archive_forms_values.specs.ShapeLayout.Content.{members, weave, first_values, other_values}
+use Rattle.archive_shape_layout.specs.Value.{Value, Values, append_values, count_values}
+use Rattle.archive_shape_layout.specs.Value.Value.{natural, integer, boolean, string, group, chosen, counted, back}
+use Rattle.archive_shape_layout.specs.Value.Values.{no_values, more_values}
+use Rattle.archive_shape_layout.specs.Content.{members, weave, first_values, other_values}
 use Rattle.cabinet_text_grammar.specs.Tree.{Tree, Trees, Pairs, depth, most_depth, pairs_depth}
 use Rattle.cabinet_documents.specs.Denotes.{Denotes, DenoteAll, DenotePairs}
 use Rattle.cabinet_documents.specs.Denotes.Denotes.{denotes_truth, denotes_number, denotes_text, denotes_shared, denotes_nothing}

@@ -1,15 +1,15 @@
 -- What holds at a node's place has a value of that place, and no shared position lies inside itself there.
 use Rattle.std.proofs.Common.{◌≡◌, ℕ, suc, ◌++◌, ◌==◌, cond, Bool, true, false, List, [], ◌∷◌, Some, None, refl, sym, ap, ap₂, subst, ◌∙◌}
-use Rattle.archive_forms_values.specs.ShapeLayout.Value.{Value, Values}
-use Rattle.archive_forms_values.specs.ShapeLayout.Value.Value.{counted}
-use Rattle.archive_forms_values.specs.ShapeLayout.Content.{Part, Label, Span, content_of, made, IsLegal}
-use Rattle.archive_forms_values.specs.ShapeLayout.Content.Part.{behind}
-use Rattle.archive_forms_values.specs.ShapeLayout.Content.Content.{plain, claimed, counting}
-use Rattle.archive_forms_values.specs.ShapeLayout.Shape.{Pointee}
-use Rattle.archive_forms_values.specs.ShapeLayout.Shape.Pointee.{sized, str}
-use Rattle.archive_forms_values.specs.ShapeLayout.Holds.{Region, region_of, Visit, OpenShared, open_at, visited, Holds, HoldAll}
-use Rattle.archive_forms_values.specs.ShapeLayout.Holds.Holds.{holds_plain, holds_claimed, holds_first, holds_later, holds_back}
-use Rattle.archive_forms_values.specs.ShapeLayout.Holds.HoldAll.{holds_none, holds_more}
+use Rattle.archive_shape_layout.specs.Value.{Value, Values}
+use Rattle.archive_shape_layout.specs.Value.Value.{counted}
+use Rattle.archive_shape_layout.specs.Content.{Part, Label, Span, content_of, made, IsLegal}
+use Rattle.archive_shape_layout.specs.Content.Part.{behind}
+use Rattle.archive_shape_layout.specs.Content.Content.{plain, claimed, counting}
+use Rattle.archive_shape_layout.specs.Shape.{Pointee}
+use Rattle.archive_shape_layout.specs.Shape.Pointee.{sized, str}
+use Rattle.archive_shape_layout.specs.Holds.{Region, region_of, Visit, OpenShared, open_at, visited, Holds, HoldAll}
+use Rattle.archive_shape_layout.specs.Holds.Holds.{holds_plain, holds_claimed, holds_first, holds_later, holds_back}
+use Rattle.archive_shape_layout.specs.Holds.HoldAll.{holds_none, holds_more}
 use Rattle.cabinet_documents.specs.Node.{node_shape, node_names}
 use Rattle.cabinet_documents.specs.Laws.{IsAcyclic, AreAcyclic}
 use Rattle.cabinet_documents.proofs.Places.{Place, shared_here, whole_here, text_behind, node_behind, Spot, part_of, parts_at, Leads, leads_nowhere, leads_plain, leads_claimed, leads_counted, leads_whole, led}

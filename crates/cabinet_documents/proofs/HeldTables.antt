@@ -1,29 +1,29 @@
 -- That the tables in what holds are sound, and that they stay so where a part's own bytes and those that it claims stay.
 use Rattle.std.proofs.Common.{◌≡◌, ℕ, zero, suc, ◌+◌, ◌-◌, ◌*◌, Bool, true, List, [], ◌∷◌, ◌++◌, drop, slice_index, Some, refl, sym, ap, ap₂, subst, ◌∙◌, ◌⊎◌, inl, inr}
 use Rattle.std.specs.Prelude.{⊤}
-use Rattle.archive_forms_values.specs.ShapeLayout.Bytes.{window, word_at}
-use Rattle.archive_forms_values.specs.ShapeLayout.Shape.{Shape, Pointee}
-use Rattle.archive_forms_values.specs.ShapeLayout.Shape.Shape.{table, index_map}
-use Rattle.archive_forms_values.specs.ShapeLayout.Shape.Pointee.{slice}
-use Rattle.archive_forms_values.specs.ShapeLayout.Value.{Value, Values}
-use Rattle.archive_forms_values.specs.ShapeLayout.Value.Value.{string, group, chosen}
-use Rattle.archive_forms_values.specs.ShapeLayout.Value.Values.{no_values, more_values}
-use Rattle.archive_forms_values.specs.ShapeLayout.Content.{Names, Part, Label, Span, Item, place, content_of, made, members, item, IsLegal, control_count, item_size, words_of, link_node_size, shape_content, child_content, place_content}
-use Rattle.archive_forms_values.specs.ShapeLayout.Content.Part.{at, behind, node, child, entry, buckets, place_at}
-use Rattle.archive_forms_values.specs.ShapeLayout.Content.Label.{same, second}
-use Rattle.archive_forms_values.specs.ShapeLayout.Content.Content.{plain, claimed, counting}
-use Rattle.archive_forms_values.specs.ShapeLayout.Holds.{Region, region_of, Visit, OpenShared, Holds, HoldAll}
-use Rattle.archive_forms_values.specs.ShapeLayout.Holds.Holds.{holds_plain, holds_claimed, holds_first, holds_later, holds_back}
-use Rattle.archive_forms_values.specs.ShapeLayout.Holds.HoldAll.{holds_none, holds_more}
-use Rattle.archive_forms_values.specs.ShapeLayout.Laws.{OwnAgrees, RegionsAgree}
-use Rattle.archive_forms_values.specs.ShapeLayout.Path.{change_in, put_at, through, value_in}
-use Rattle.archive_forms_values.specs.ShapeCanonical.Seen.{seen_bytes_of, first_seen_bytes}
-use Rattle.archive_forms_values.specs.ShapeCanonical.Laws.{IsBehindKey}
+use Rattle.archive_shape_layout.specs.Bytes.{window, word_at}
+use Rattle.archive_shape_layout.specs.Shape.{Shape, Pointee}
+use Rattle.archive_shape_layout.specs.Shape.Shape.{table, index_map}
+use Rattle.archive_shape_layout.specs.Shape.Pointee.{slice}
+use Rattle.archive_shape_layout.specs.Value.{Value, Values}
+use Rattle.archive_shape_layout.specs.Value.Value.{string, group, chosen}
+use Rattle.archive_shape_layout.specs.Value.Values.{no_values, more_values}
+use Rattle.archive_shape_layout.specs.Content.{Names, Part, Label, Span, Item, place, content_of, made, members, item, IsLegal, control_count, item_size, words_of, link_node_size, shape_content, child_content, place_content}
+use Rattle.archive_shape_layout.specs.Content.Part.{at, behind, node, child, entry, buckets, place_at}
+use Rattle.archive_shape_layout.specs.Content.Label.{same, second}
+use Rattle.archive_shape_layout.specs.Content.Content.{plain, claimed, counting}
+use Rattle.archive_shape_layout.specs.Holds.{Region, region_of, Visit, OpenShared, Holds, HoldAll}
+use Rattle.archive_shape_layout.specs.Holds.Holds.{holds_plain, holds_claimed, holds_first, holds_later, holds_back}
+use Rattle.archive_shape_layout.specs.Holds.HoldAll.{holds_none, holds_more}
+use Rattle.archive_shape_layout.specs.Laws.{OwnAgrees, RegionsAgree}
+use Rattle.archive_shape_layout.specs.Path.{change_in, put_at, through, value_in}
+use Rattle.archive_shape_canonical.specs.Seen.{seen_bytes_of, first_seen_bytes}
+use Rattle.archive_shape_canonical.specs.Laws.{IsBehindKey}
 use Rattle.archive_forms_values.specs.Tuples.{tuple2}
-use Rattle.archive_forms_values.proofs.ShapeLayout.Framed.{AllOwn, own_more, Settled, plain_own, claimed_own, settled, one_region, stable_plain, stable_claimed, RegionsAgree-append, frame}
-use Rattle.archive_forms_values.proofs.ShapeLayout.Paths.{path_is}
-use Rattle.archive_forms_values.proofs.ShapeLayout.Places.{Laid, pointee_laid, behind_span, node_laid, node_high, buckets_laid}
-use Rattle.archive_forms_values.proofs.ShapeCanonical.Kept.{plain_seen, counting_seen, span_seen}
+use Rattle.archive_shape_layout.proofs.Framed.{AllOwn, own_more, Settled, plain_own, claimed_own, settled, one_region, stable_plain, stable_claimed, RegionsAgree-append, frame}
+use Rattle.archive_shape_layout.proofs.Paths.{path_is}
+use Rattle.archive_shape_layout.proofs.Places.{Laid, pointee_laid, behind_span, node_laid, node_high, buckets_laid}
+use Rattle.archive_shape_canonical.proofs.Kept.{plain_seen, counting_seen, span_seen}
 use Rattle.cabinet_documents.specs.Table.{Table, Findable, hashed_at, kept_at, table_of, item_keys, key_of}
 use Rattle.cabinet_documents.proofs.EntryNumbers.{first_numbers, numbers_first, same_numbers}
 use Rattle.cabinet_documents.proofs.TableSound.{IsTableSound, TableCase, is_table, is_index, is_none, table_case, BucketsRead, reads_none, reads_buckets, table_direct, table_read, index_direct, index_read, no_table, led_table}

@@ -1,29 +1,29 @@
 -- Writing a leaf over own bytes keeps the one archive of a document.
 use Rattle.std.proofs.Common.{◌≡◌, ℕ, ◌+◌, ◌≤◌, ◌<◌, inl, List, [], ◌∷◌, ◌++◌, length, slice_index, IsUtf8, refl, sym, subst, ◌∙◌, arith, get_or-drop}
 use Rattle.std.proofs.lemmas.List.{places}
-use Rattle.archive_forms_values.specs.ShapeLayout.Shape.{Shape, size_of}
-use Rattle.archive_forms_values.specs.ShapeLayout.Shape.Shape.{text as text_shape}
-use Rattle.archive_forms_values.specs.ShapeLayout.Value.{Value}
-use Rattle.archive_forms_values.specs.ShapeLayout.Value.Value.{string}
-use Rattle.archive_forms_values.specs.ShapeLayout.Content.{Content, made}
-use Rattle.archive_forms_values.specs.ShapeLayout.Content.Part.{at}
-use Rattle.archive_forms_values.specs.ShapeLayout.Content.Label.{written, leaf as leaf_label}
-use Rattle.archive_forms_values.specs.ShapeLayout.Content.Content.{plain}
-use Rattle.archive_forms_values.specs.ShapeLayout.Holds.{Region, Visit, root_position}
-use Rattle.archive_forms_values.specs.ShapeLayout.Path.{put_at}
-use Rattle.archive_forms_values.specs.ShapeCanonical.Clean.{IsFilled, field_size}
-use Rattle.archive_forms_values.specs.ShapeCanonical.Settled.{Fit}
-use Rattle.archive_forms_values.specs.ShapeCanonical.Canonical.{AreBytes, CanonicalArchive}
-use Rattle.archive_forms_values.specs.ShapeCanonical.FirstFit.{first_fit}
-use Rattle.archive_forms_values.proofs.ShapeCanonical.Cleanness.{clean_by}
-use Rattle.archive_forms_values.proofs.ShapeCanonical.Editing.{canonical_edit_of_leaf_law, canonical_edit_of_text_law}
-use Rattle.archive_forms_values.proofs.ShapeCanonical.Small.{small_append}
-use Rattle.archive_forms_values.proofs.ShapeCanonical.Windows.{window_bytes}
-use Rattle.archive_forms_values.specs.ArchiveShape.Bytes.{overwrite}
-use Rattle.archive_forms_values.specs.ArchiveShape.Sealing.{StandsInRoot}
-use Rattle.archive_forms_values.proofs.ArchiveShape.Pieces.{window_byte}
-use Rattle.archive_forms_values.proofs.ArchiveShape.Written.{length-overwrite, overwrite_spares_law}
-use Rattle.archive_forms_values.specs.ShapeCanonical.Hash.{text_hash}
+use Rattle.archive_shape_layout.specs.Shape.{Shape, size_of}
+use Rattle.archive_shape_layout.specs.Shape.Shape.{text as text_shape}
+use Rattle.archive_shape_layout.specs.Value.{Value}
+use Rattle.archive_shape_layout.specs.Value.Value.{string}
+use Rattle.archive_shape_layout.specs.Content.{Content, made}
+use Rattle.archive_shape_layout.specs.Content.Part.{at}
+use Rattle.archive_shape_layout.specs.Content.Label.{written, leaf as leaf_label}
+use Rattle.archive_shape_layout.specs.Content.Content.{plain}
+use Rattle.archive_shape_layout.specs.Holds.{Region, Visit, root_position}
+use Rattle.archive_shape_layout.specs.Path.{put_at}
+use Rattle.archive_shape_canonical.specs.Clean.{IsFilled, field_size}
+use Rattle.archive_shape_canonical.specs.Settled.{Fit}
+use Rattle.archive_shape_canonical.specs.Canonical.{AreBytes, CanonicalArchive}
+use Rattle.archive_shape_canonical.specs.FirstFit.{first_fit}
+use Rattle.archive_shape_canonical.proofs.Cleanness.{clean_by}
+use Rattle.archive_shape_canonical.proofs.Editing.{canonical_edit_of_leaf_law, canonical_edit_of_text_law}
+use Rattle.archive_shape_canonical.proofs.Small.{small_append}
+use Rattle.archive_shape_canonical.proofs.Windows.{window_bytes}
+use Rattle.archive_shape.specs.Bytes.{overwrite}
+use Rattle.archive_shape.specs.Sealing.{StandsInRoot}
+use Rattle.archive_shape.proofs.Pieces.{window_byte}
+use Rattle.archive_shape.proofs.Written.{length-overwrite, overwrite_spares_law}
+use Rattle.archive_shape_canonical.specs.Hash.{text_hash}
 use Rattle.cabinet_text_grammar.specs.Answering.{change}
 use Rattle.cabinet_text_grammar.proofs.Changes.{change_keeps_document}
 use Rattle.cabinet_documents.specs.Node.{node_names, node_shape, own_bytes}

@@ -2,19 +2,19 @@
 use Rattle.std.proofs.Common.{◌≡◌, ℕ, ◌+◌, ◌<◌, ◌≤◌, ◌^◌, List, [], ◌∷◌, ◌++◌, length, refl, sym, ap, subst, ◌∙◌, arith}
 use Rattle.std.specs.List.{All}
 use Rattle.std.proofs.lemmas.List.Elements.{All-nil, All-cons, All-contains}
-use Rattle.archive_forms_values.specs.ShapeLayout.Shape.Pointee.{sized}
-use Rattle.archive_forms_values.specs.ShapeLayout.Value.{Value}
-use Rattle.archive_forms_values.specs.ShapeLayout.Content.{Part, content_of, pointee_content}
-use Rattle.archive_forms_values.specs.ShapeLayout.Content.Part.{behind}
-use Rattle.archive_forms_values.specs.ShapeLayout.Holds.{Region, Visit, OpenShared, Holds, Ascends, root_position, region_of}
-use Rattle.archive_forms_values.specs.ShapeLayout.Holds.Holds.{holds_plain, holds_claimed, holds_first, holds_later, holds_back}
-use Rattle.archive_forms_values.specs.ShapeCanonical.FirstFit.{first_fit}
-use Rattle.archive_forms_values.specs.ShapeCanonical.Hash.{text_hash}
-use Rattle.archive_forms_values.specs.FormsLaws.State.{initial}
-use Rattle.archive_forms_values.specs.FormsLaws.Regions.{region_fits, region_piece}
-use Rattle.archive_forms_values.proofs.FormsLaws.Regions.{region_end}
-use Rattle.archive_forms_values.specs.ShapeCanonical.Sharing.{erased}
-use Rattle.archive_forms_values.proofs.FormsLaws.Written.{is_written, written_once_law}
+use Rattle.archive_shape_layout.specs.Shape.Pointee.{sized}
+use Rattle.archive_shape_layout.specs.Value.{Value}
+use Rattle.archive_shape_layout.specs.Content.{Part, content_of, pointee_content}
+use Rattle.archive_shape_layout.specs.Content.Part.{behind}
+use Rattle.archive_shape_layout.specs.Holds.{Region, Visit, OpenShared, Holds, Ascends, root_position, region_of}
+use Rattle.archive_shape_layout.specs.Holds.Holds.{holds_plain, holds_claimed, holds_first, holds_later, holds_back}
+use Rattle.archive_shape_canonical.specs.FirstFit.{first_fit}
+use Rattle.archive_shape_canonical.specs.Hash.{text_hash}
+use Rattle.archive_forms_laws.specs.State.{initial}
+use Rattle.archive_forms_laws.specs.Regions.{region_fits, region_piece}
+use Rattle.archive_forms_laws.proofs.Regions.{region_end}
+use Rattle.archive_shape_canonical.specs.Sharing.{erased}
+use Rattle.archive_forms_laws.proofs.Written.{is_written, written_once_law}
 use Rattle.cabinet_text_grammar.specs.Tree.{Tree}
 use Rattle.cabinet_text_grammar.specs.Wholes.{wholes_of}
 use Rattle.cabinet_text_grammar.proofs.Tables.{document_table, document_numbered}

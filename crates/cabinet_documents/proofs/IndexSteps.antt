@@ -1,20 +1,20 @@
 -- From a kept map to the node of one of its pairs: what holds there, and that it lies in the map.
 use Rattle.std.proofs.Common.{◌≡◌, ℕ, zero, suc, ◌+◌, ◌*◌, List, [], ◌∷◌, Some, refl, ap, ◌∙◌, arith}
 use Rattle.std.specs.List.{slice_get}
-use Rattle.archive_forms_values.specs.ShapeLayout.Bytes.{align_up, word_at, target_from}
-use Rattle.archive_forms_values.specs.ShapeLayout.Shape.Shape.{text}
-use Rattle.archive_forms_values.specs.ShapeLayout.Shape.Pointee.{slice}
-use Rattle.archive_forms_values.specs.ShapeLayout.Value.{Value, Values}
-use Rattle.archive_forms_values.specs.ShapeLayout.Value.Value.{group}
-use Rattle.archive_forms_values.specs.ShapeLayout.Value.Values.{no_values, more_values}
-use Rattle.archive_forms_values.specs.ShapeLayout.Content.{Part, content_of, made, pointee_content, place}
-use Rattle.archive_forms_values.specs.ShapeLayout.Content.Part.{behind}
-use Rattle.archive_forms_values.specs.ShapeLayout.Content.Label.{second, whole}
-use Rattle.archive_forms_values.specs.ShapeLayout.Content.Content.{plain, claimed}
-use Rattle.archive_forms_values.specs.ShapeLayout.Holds.{Region, Visit, OpenShared, Holds}
-use Rattle.archive_forms_values.specs.ShapeLayout.Path.{value_in}
-use Rattle.archive_forms_values.specs.ShapeLayout.Path.Stands.{stands_plain, stands_claimed}
-use Rattle.archive_forms_values.proofs.ShapeLayout.Unique.{by_plain, by_claimed}
+use Rattle.archive_shape_layout.specs.Bytes.{align_up, word_at, target_from}
+use Rattle.archive_shape_layout.specs.Shape.Shape.{text}
+use Rattle.archive_shape_layout.specs.Shape.Pointee.{slice}
+use Rattle.archive_shape_layout.specs.Value.{Value, Values}
+use Rattle.archive_shape_layout.specs.Value.Value.{group}
+use Rattle.archive_shape_layout.specs.Value.Values.{no_values, more_values}
+use Rattle.archive_shape_layout.specs.Content.{Part, content_of, made, pointee_content, place}
+use Rattle.archive_shape_layout.specs.Content.Part.{behind}
+use Rattle.archive_shape_layout.specs.Content.Label.{second, whole}
+use Rattle.archive_shape_layout.specs.Content.Content.{plain, claimed}
+use Rattle.archive_shape_layout.specs.Holds.{Region, Visit, OpenShared, Holds}
+use Rattle.archive_shape_layout.specs.Path.{value_in}
+use Rattle.archive_shape_layout.specs.Path.Stands.{stands_plain, stands_claimed}
+use Rattle.archive_shape_layout.proofs.Unique.{by_plain, by_claimed}
 use Rattle.cabinet_documents.specs.Node.{node_names, node_shape, pair_shape}
 use Rattle.cabinet_documents.specs.Denotes.{pair_value}
 use Rattle.cabinet_documents.proofs.Places.{index_here, pair_here, pairs_behind, part_of, parts_at, pairs_from, pairs_are, passes, no_entries_is, entries_second, Leads, leads_nowhere, leads_plain, leads_claimed, led}

@@ -7,7 +7,7 @@ use Rattle.std.specs.declared.cmp.Ordering.{Ordering}
 use Rattle.std.specs.declared.cmp.Ordering.TheVariants.{Less, Equal, Greater}
 use Rattle.std.specs.Cmp.Lexicographic.{slice_cmp, nat_list_cmp_total}
 use Rattle.std.proofs.lemmas.Map.Lookups.{exact_bytes}
-use Rattle.archive_forms_values.specs.ShapeCanonical.FirstFit.{comes_before, put_in, ascending}
+use Rattle.archive_shape_canonical.specs.FirstFit.{comes_before, put_in, ascending}
 use Rattle.cabinet_text_grammar.specs.Keys.{hashed}
 use Rattle.cabinet_text_grammar.specs.Tree.{Tree, nothing, Pairs, no_pairs, more_pairs, ArePairs}
 use Rattle.cabinet_documents.specs.Order.{is_below, inserted, arranged}

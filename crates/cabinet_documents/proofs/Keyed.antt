@@ -2,7 +2,7 @@
 use Rattle.std.proofs.Common.{◌≡◌, ℕ, Bool, true, false, cond, List, [], ◌∷◌, refl, sym, ap, subst, ◌∙◌}
 use Rattle.std.specs.Ordering.{is_lt, nat_cmp}
 use Rattle.std.specs.Cmp.Lexicographic.{slice_cmp}
-use Rattle.archive_forms_values.specs.ShapeLayout.Value.{Value, Values}
+use Rattle.archive_shape_layout.specs.Value.{Value, Values}
 use Rattle.cabinet_text_grammar.specs.Keys.{ordered, hashed, kept, IsAboveLast}
 use Rattle.cabinet_text_grammar.specs.Tree.{Tree, Trees, Pairs, no_pairs as none, more_pairs as more, IsLegal, AreLegal, ArePairs}
 use Rattle.cabinet_documents.specs.Denotes.{Denotes, DenoteAll, DenotePairs}

@@ -1,7 +1,7 @@
 -- No two keys stand for one value of one type.
 use Rattle.std.proofs.Common.{◌≡◌, ℕ, ◌+◌, ◌*◌, ◌%◌, ◌/◌, ◌==◌, cond, Bool, true, false, List, Option, Some, None, refl, sym, ap, ◌∙◌, arith, eqb-true}
-use Rattle.archive_forms_values.specs.ShapeLayout.Value.Value.{string}
-use Rattle.archive_forms_values.specs.FormsLaws.State.{SharedValue, AreOneToOne}
+use Rattle.archive_shape_layout.specs.Value.Value.{string}
+use Rattle.archive_forms_laws.specs.State.{SharedValue, AreOneToOne}
 use Rattle.cabinet_text_grammar.specs.TextKey.{text_of_key}
 use Rattle.cabinet_text_grammar.proofs.KeyLemmas.{text_has_key_law}
 use Rattle.cabinet_text_grammar.specs.Tree.{Tree}

@@ -1,14 +1,14 @@
 -- How a path in a value leads to a leaf, at each place.
 use Rattle.std.proofs.Common.{◌≡◌, ℕ, zero, suc, ◌+◌, ◌-◌, ◌*◌, ◌<◌, ◌≤◌, nat_lt, cond, Bool, true, false, List, [], ◌∷◌, ◌++◌, Option, Some, None, refl, sym, ap, subst, ◌∙◌, arith, ◌⊎◌, inl, inr}
 use Rattle.std.specs.Prelude.{⊤}
-use Rattle.archive_forms_values.specs.ShapeLayout.Value.{Value, Values}
-use Rattle.archive_forms_values.specs.ShapeLayout.Value.Value.{group, chosen}
-use Rattle.archive_forms_values.specs.ShapeLayout.Value.Values.{no_values, more_values}
-use Rattle.archive_forms_values.specs.ShapeLayout.Content.{Label, made, first_values, other_values}
-use Rattle.archive_forms_values.specs.ShapeLayout.Content.Label.{same, second, whole, woven, total}
-use Rattle.archive_forms_values.specs.ShapeLayout.Path.{value_in, value_at, and_then, through, child_place, entry_place, in_child, in_entry}
-use Rattle.archive_forms_values.proofs.ShapeLayout.Paths.{path_is, put_label}
-use Rattle.archive_forms_values.specs.ShapeCanonical.Laws.{IsBehindKey}
+use Rattle.archive_shape_layout.specs.Value.{Value, Values}
+use Rattle.archive_shape_layout.specs.Value.Value.{group, chosen}
+use Rattle.archive_shape_layout.specs.Value.Values.{no_values, more_values}
+use Rattle.archive_shape_layout.specs.Content.{Label, made, first_values, other_values}
+use Rattle.archive_shape_layout.specs.Content.Label.{same, second, whole, woven, total}
+use Rattle.archive_shape_layout.specs.Path.{value_in, value_at, and_then, through, child_place, entry_place, in_child, in_entry}
+use Rattle.archive_shape_layout.proofs.Paths.{path_is, put_label}
+use Rattle.archive_shape_canonical.specs.Laws.{IsBehindKey}
 use Rattle.cabinet_text_grammar.specs.Tree.{Leaf, truth, number, text}
 use Rattle.cabinet_text_grammar.specs.Path.{Step}
 use Rattle.cabinet_documents.specs.Denotes.{tagged_value, pair_value}

@@ -1,18 +1,18 @@
 -- Each leaf of an accepted document has own bytes.
 use Rattle.std.proofs.Common.{◌≡◌, ℕ, suc, List, [], ◌∷◌, ◌++◌, length, Some, refl, sym, ap, subst, ◌∙◌, ◌⊎◌, false}
-use Rattle.archive_forms_values.specs.ShapeLayout.Bytes.{window}
-use Rattle.archive_forms_values.specs.ShapeLayout.Shape.Pointee.{sized, str}
-use Rattle.archive_forms_values.specs.ShapeLayout.Value.{Value, Values}
-use Rattle.archive_forms_values.specs.ShapeLayout.Value.Value.{group, string}
-use Rattle.archive_forms_values.specs.ShapeLayout.Content.{Part}
-use Rattle.archive_forms_values.specs.ShapeLayout.Content.Part.{behind}
+use Rattle.archive_shape_layout.specs.Bytes.{window}
+use Rattle.archive_shape_layout.specs.Shape.Pointee.{sized, str}
+use Rattle.archive_shape_layout.specs.Value.{Value, Values}
+use Rattle.archive_shape_layout.specs.Value.Value.{group, string}
+use Rattle.archive_shape_layout.specs.Content.{Part}
+use Rattle.archive_shape_layout.specs.Content.Part.{behind}
 use Rattle.archive_btree_spelling.proofs.PairsStand.{tree_pair_stands}
-use Rattle.archive_forms_values.specs.ShapeLayout.Holds.{Region, Visit, OpenShared, Holds, root_position}
-use Rattle.archive_forms_values.specs.ShapeLayout.Edit.IsLeafIn.{out_of_line}
-use Rattle.archive_forms_values.specs.ShapeLayout.Path.{Stands, value_in}
-use Rattle.archive_forms_values.specs.ShapeLayout.Path.Stands.{stands_here}
-use Rattle.archive_forms_values.proofs.ShapeLayout.Leaves.{leaf_within_law}
-use Rattle.archive_forms_values.proofs.ArchiveShape.Pieces.{length-window}
+use Rattle.archive_shape_layout.specs.Holds.{Region, Visit, OpenShared, Holds, root_position}
+use Rattle.archive_shape_layout.specs.Edit.IsLeafIn.{out_of_line}
+use Rattle.archive_shape_layout.specs.Path.{Stands, value_in}
+use Rattle.archive_shape_layout.specs.Path.Stands.{stands_here}
+use Rattle.archive_shape_layout.proofs.Leaves.{leaf_within_law}
+use Rattle.archive_shape.proofs.Pieces.{length-window}
 use Rattle.cabinet_text_grammar.specs.Keys.{MapKind, ordered, hashed, kept}
 use Rattle.cabinet_text_grammar.specs.Tree.{Leaf, truth, number, text, Tree, Pairs, leaf, map, IsLegal}
 use Rattle.cabinet_text_grammar.specs.Path.{Step, key, place, inside, node_at, enters}

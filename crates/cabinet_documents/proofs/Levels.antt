@@ -3,23 +3,23 @@ use Rattle.std.proofs.Common.{◌≡◌, ℕ, suc, true, false, ◌≤◌, ◌<�
 use Rattle.std.proofs.Math.Nat.{le-max_left, le-max_right}
 use Rattle.std.proofs.lemmas.List.{length-map}
 use Rattle.std.specs.Int.{w64, to_le_bytes, cast_unsigned}
-use Rattle.archive_forms_values.specs.ShapeLayout.Bytes.{align_up}
-use Rattle.archive_forms_values.specs.ShapeLayout.Shape.{Shape, align_of, size_of}
-use Rattle.archive_forms_values.specs.ShapeLayout.Shape.Alignment.{eight}
-use Rattle.archive_forms_values.specs.ShapeLayout.Shape.Shape.{number, truth, text, option, choice, vector, tree, table, index_map, shared as shared_shape}
-use Rattle.archive_forms_values.specs.ShapeLayout.Shape.Pointee.{sized, str}
-use Rattle.archive_forms_values.specs.ShapeLayout.Value.Value.{integer, boolean}
-use Rattle.archive_forms_values.specs.ShapeLayout.Content.{shape_tagged}
-use Rattle.archive_forms_values.specs.ShapeLayout.Numbers.{truth_bytes}
-use Rattle.archive_forms_values.specs.ShapeCanonical.Hash.{text_hash}
-use Rattle.archive_forms_values.specs.ShapeCanonical.Settled.{Fit}
-use Rattle.archive_forms_values.specs.FormsLaws.Spelling.{Spelling}
-use Rattle.archive_forms_values.specs.FormsLaws.Spells.{SpellsAt, EachSpells}
-use Rattle.archive_forms_values.specs.FormsLaws.Forms.{seen_as}
-use Rattle.archive_forms_values.specs.FormsLaws.Pointers.{slice_spelling, box_spelling}
-use Rattle.archive_forms_values.specs.FormsLaws.Payloads.{payload_spelling}
-use Rattle.archive_forms_values.specs.FormsLaws.Texts.{text_spelling}
-use Rattle.archive_forms_values.specs.FormsLaws.Shared.{shared_text_spelling, shared_value_spelling}
+use Rattle.archive_shape_layout.specs.Bytes.{align_up}
+use Rattle.archive_shape_layout.specs.Shape.{Shape, align_of, size_of}
+use Rattle.archive_shape_layout.specs.Shape.Alignment.{eight}
+use Rattle.archive_shape_layout.specs.Shape.Shape.{number, truth, text, option, choice, vector, tree, table, index_map, shared as shared_shape}
+use Rattle.archive_shape_layout.specs.Shape.Pointee.{sized, str}
+use Rattle.archive_shape_layout.specs.Value.Value.{integer, boolean}
+use Rattle.archive_shape_layout.specs.Content.{shape_tagged}
+use Rattle.archive_shape_layout.specs.Numbers.{truth_bytes}
+use Rattle.archive_shape_canonical.specs.Hash.{text_hash}
+use Rattle.archive_shape_canonical.specs.Settled.{Fit}
+use Rattle.archive_forms_laws.specs.Spelling.{Spelling}
+use Rattle.archive_forms_laws.specs.Spells.{SpellsAt, EachSpells}
+use Rattle.archive_forms_laws.specs.Forms.{seen_as}
+use Rattle.archive_forms_laws.specs.Pointers.{slice_spelling, box_spelling}
+use Rattle.archive_forms_laws.specs.Payloads.{payload_spelling}
+use Rattle.archive_forms_laws.specs.Texts.{text_spelling}
+use Rattle.archive_forms_laws.specs.Shared.{shared_text_spelling, shared_value_spelling}
 use Rattle.archive_forms_laws.proofs.Behind.{value_behind}
 use Rattle.archive_forms_laws.proofs.Fields.{tuple2_spells_at}
 use Rattle.archive_forms_laws.proofs.Leaves.{leaf_spells}
@@ -37,9 +37,9 @@ use Rattle.archive_hash_writing.specs.Tables.{table_spelling}
 use Rattle.archive_hash_writing.specs.Tables.{hashed_spelling as of_hashes}
 use Rattle.archive_hash_writing.proofs.Small.{text_hashes_small}
 use Rattle.archive_hash_writing.proofs.SpellingTables.{hashed_spells_of}
-use Rattle.archive_index_spelling.specs.Maps.{index_spelling}
-use Rattle.archive_index_spelling.specs.Resolvers.{resolver_of, positions_of}
-use Rattle.archive_index_spelling.proofs.Maps.{index_spells_at}
+use Rattle.archive_hash_writing.specs.IndexMaps.{index_spelling}
+use Rattle.archive_hash_writing.specs.IndexResolvers.{resolver_of, positions_of}
+use Rattle.archive_hash_writing.proofs.IndexMaps.{index_spells_at}
 use Rattle.cabinet_text_grammar.specs.Keys.{ordered, hashed, kept}
 use Rattle.cabinet_text_grammar.specs.Tree as document
 use Rattle.cabinet_text_grammar.specs.Tree.{Tree, Trees, Pairs, leaf, shared, nothing, just, list, map, whole, no_trees, more_trees, no_pairs, more_pairs, depth, most_depth, pairs_depth}
@@ -49,7 +49,7 @@ use Rattle.cabinet_documents.specs.declared.spelling.resolver.NodeResolver.{Node
 use Rattle.cabinet_documents.specs.declared.spelling.resolver.NodeResolver.TheVariants as resolver
 use Rattle.cabinet_documents.specs.Spelling.{truth_spelling, number_spelling, shared_string_spelling, boxed_shape, boxed_spelling, maybe_spelling, list_spelling, ordered_spelling, pair_spelling, hashed_spelling, kept_spelling, trees_in, pairs_in, text_in, shared_in, maybe_in, list_in, ordered_in, hashed_in, kept_in, whole_in, whole_spelling, node_of, refused, spelling_of, node_level}
 use Rattle.cabinet_documents.specs.SpellingLaws.{NodeSpells}
-use Rattle.archive_forms_rc.specs.FormsWriting.Owned.{str_spelling}
+use Rattle.archive_forms_writing.specs.Owned.{str_spelling}
 
 module _ (fit : Fit) where
   -- the law of a payload is that of the node with it

@@ -1,14 +1,14 @@
 -- In the walk of what holds, each full place of a kept map names an entry.
 use Rattle.std.proofs.Common.{◌≡◌, ℕ, ◌+◌, ◌<◌, List, [], ◌∷◌, length, Some, refl, sym, ap, subst, ◌∙◌, arith}
 use Rattle.std.specs.List.{Contains}
-use Rattle.archive_forms_values.specs.ShapeLayout.Bytes.{word_at}
-use Rattle.archive_forms_values.specs.ShapeLayout.Shape.{Shape}
-use Rattle.archive_forms_values.specs.ShapeLayout.Shape.Shape.{index_map}
-use Rattle.archive_forms_values.specs.ShapeLayout.Shape.Pointee.{slice}
-use Rattle.archive_forms_values.specs.ShapeLayout.Value.{Value, Values}
-use Rattle.archive_forms_values.specs.ShapeLayout.Content.{Names, Part, Label, content_of, made, members, place}
-use Rattle.archive_forms_values.specs.ShapeLayout.Content.Part.{at, behind}
-use Rattle.archive_forms_values.specs.ShapeLayout.Content.Label.{second}
+use Rattle.archive_shape_layout.specs.Bytes.{word_at}
+use Rattle.archive_shape_layout.specs.Shape.{Shape}
+use Rattle.archive_shape_layout.specs.Shape.Shape.{index_map}
+use Rattle.archive_shape_layout.specs.Shape.Pointee.{slice}
+use Rattle.archive_shape_layout.specs.Value.{Value, Values}
+use Rattle.archive_shape_layout.specs.Content.{Names, Part, Label, content_of, made, members, place}
+use Rattle.archive_shape_layout.specs.Content.Part.{at, behind}
+use Rattle.archive_shape_layout.specs.Content.Label.{second}
 use Rattle.archive_forms_values.specs.Tuples.{tuple2}
 use Rattle.cabinet_documents.specs.Table.{Slot, Table, empty_table, numbered, kept_at, kept_slot, table_of, entry_of, item_keys}
 use Rattle.cabinet_documents.specs.Walk.{Stop}

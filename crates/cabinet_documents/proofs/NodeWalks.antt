@@ -2,22 +2,22 @@
 use Rattle.std.proofs.Common.{◌≡◌, ◌∙◌, ℕ, zero, suc, ◌+◌, ◌*◌, ◌<◌, ◌≤◌, Bool, true, false, nat_lt, ◌==◌, List, [], ◌∷◌, ◌++◌, length, get_or, slice_index, Option, Some, None, refl, sym, ap, subst, arith, append-nil, eqb-true, w64}
 use Rattle.std.specs.List.{flat_map}
 use Rattle.std.specs.Int.{from_le_bytes}
-use Rattle.archive_forms_values.specs.ShapeLayout.Bytes.{window, align_up, word_at, target_from}
-use Rattle.archive_forms_values.specs.ShapeLayout.Shape.{Shape, align_of, size_of}
-use Rattle.archive_forms_values.specs.ShapeLayout.Shape.Shape.{number, truth, text, shared}
-use Rattle.archive_forms_values.specs.ShapeLayout.Shape.Pointee.{sized, slice, str}
-use Rattle.archive_forms_values.specs.ShapeLayout.Value.{Value, Values}
-use Rattle.archive_forms_values.specs.ShapeLayout.Value.Value.{boolean, group, chosen, counted}
-use Rattle.archive_forms_values.specs.ShapeLayout.Value.Values.{no_values}
-use Rattle.archive_forms_values.specs.ShapeLayout.Content.{Names, Part, Label, content_of, choose, following, made, option_content, shape_tagged, shape_content, shared_content, pointee_content, number_value, elements}
-use Rattle.archive_forms_values.specs.ShapeLayout.Content.Part.{at, behind}
-use Rattle.archive_forms_values.specs.ShapeLayout.Content.Label.{leaf, same, whole, tagged}
-use Rattle.archive_forms_values.specs.ShapeLayout.Content.Content.{illegal, plain, claimed, counting}
-use Rattle.archive_forms_values.specs.ShapeLayout.Path.{value_in}
+use Rattle.archive_shape_layout.specs.Bytes.{window, align_up, word_at, target_from}
+use Rattle.archive_shape_layout.specs.Shape.{Shape, align_of, size_of}
+use Rattle.archive_shape_layout.specs.Shape.Shape.{number, truth, text, shared}
+use Rattle.archive_shape_layout.specs.Shape.Pointee.{sized, slice, str}
+use Rattle.archive_shape_layout.specs.Value.{Value, Values}
+use Rattle.archive_shape_layout.specs.Value.Value.{boolean, group, chosen, counted}
+use Rattle.archive_shape_layout.specs.Value.Values.{no_values}
+use Rattle.archive_shape_layout.specs.Content.{Names, Part, Label, content_of, choose, following, made, option_content, shape_tagged, shape_content, shared_content, pointee_content, number_value, elements}
+use Rattle.archive_shape_layout.specs.Content.Part.{at, behind}
+use Rattle.archive_shape_layout.specs.Content.Label.{leaf, same, whole, tagged}
+use Rattle.archive_shape_layout.specs.Content.Content.{illegal, plain, claimed, counting}
+use Rattle.archive_shape_layout.specs.Path.{value_in}
 use Rattle.archive_forms_values.proofs.Pointed.{made_same, made_whole}
 use Rattle.archive_forms_values.proofs.Tagged.{own_tag, choice_tag}
 use Rattle.archive_forms_values.proofs.Targets.{first_word}
-use Rattle.archive_forms_values.proofs.ShapeLayout.Windows.{word_within}
+use Rattle.archive_shape_layout.proofs.Windows.{word_within}
 use Rattle.cabinet_documents.specs.Node.{node_shape, node_names, payloads}
 use Rattle.cabinet_documents.specs.Denotes.{tagged_value}
 use Rattle.cabinet_documents.specs.Walk.{Stop, Walks, WalkAll}

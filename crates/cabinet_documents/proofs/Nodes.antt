@@ -1,14 +1,14 @@
 -- The value of a node, by what its places lead to.
 use Rattle.std.proofs.Common.{◌≡◌, ℕ, ℤ, zero, suc, ◌++◌, ◌+◌, ◌-◌, ◌*◌, ◌^◌, ◌<◌, ◌==◌, cond, nat_lt, length, Bool, true, false, w64, FitsSigned, IsUtf8, List, [], ◌∷◌, Some, None, refl, sym, ap, ap₂, subst, ◌∙◌, arith, eqb-true}
-use Rattle.archive_forms_values.specs.ShapeLayout.Value.{Value, Values, count_values, append_values}
-use Rattle.archive_forms_values.specs.ShapeLayout.Value.Value.{integer, boolean, string, group, chosen, counted}
-use Rattle.archive_forms_values.specs.ShapeLayout.Value.Values.{no_values, more_values}
-use Rattle.archive_forms_values.specs.ShapeLayout.Content.{Part, Label, content_of, made, IsLegal, members, weave, first_values, other_values}
-use Rattle.archive_forms_values.specs.ShapeLayout.Content.Label.{leaf, written, same, second, whole, tagged, woven, total}
-use Rattle.archive_forms_values.specs.ShapeLayout.Content.Content.{illegal}
-use Rattle.archive_forms_values.specs.ShapeLayout.Holds.{Region, Visit, OpenShared, Holds}
-use Rattle.archive_forms_values.specs.ShapeLayout.Holds.Holds.{holds_plain, holds_claimed, holds_first, holds_later, holds_back}
-use Rattle.archive_forms_values.specs.ShapeCanonical.Canonical.{AreBytes}
+use Rattle.archive_shape_layout.specs.Value.{Value, Values, count_values, append_values}
+use Rattle.archive_shape_layout.specs.Value.Value.{integer, boolean, string, group, chosen, counted}
+use Rattle.archive_shape_layout.specs.Value.Values.{no_values, more_values}
+use Rattle.archive_shape_layout.specs.Content.{Part, Label, content_of, made, IsLegal, members, weave, first_values, other_values}
+use Rattle.archive_shape_layout.specs.Content.Label.{leaf, written, same, second, whole, tagged, woven, total}
+use Rattle.archive_shape_layout.specs.Content.Content.{illegal}
+use Rattle.archive_shape_layout.specs.Holds.{Region, Visit, OpenShared, Holds}
+use Rattle.archive_shape_layout.specs.Holds.Holds.{holds_plain, holds_claimed, holds_first, holds_later, holds_back}
+use Rattle.archive_shape_canonical.specs.Canonical.{AreBytes}
 use Rattle.cabinet_documents.specs.Node.{node_names}
 use Rattle.cabinet_documents.specs.Denotes.{tagged_value, pair_value}
 use Rattle.cabinet_documents.specs.Table.{full_from}

@@ -1,9 +1,9 @@
 -- Bytes at whose root a node holds, with a walk without faults, are the archive of a document.
 use Rattle.std.proofs.Common.{◌≡◌, ℕ, ◌+◌, ◌<◌, ◌≤◌, ◌^◌, Bool, true, false, cond, nat_lt, List, [], ◌∷◌, ◌++◌, length, refl, sym, ap, subst, ◌∙◌, arith, ltb-true}
 use Rattle.std.specs.Prelude.{⊤}
-use Rattle.archive_forms_values.specs.ShapeLayout.Value.{Value, Values, count_values}
-use Rattle.archive_forms_values.specs.ShapeLayout.Holds.{root_position}
-use Rattle.archive_forms_values.specs.ShapeCanonical.Canonical.{AreBytes}
+use Rattle.archive_shape_layout.specs.Value.{Value, Values, count_values}
+use Rattle.archive_shape_layout.specs.Holds.{root_position}
+use Rattle.archive_shape_canonical.specs.Canonical.{AreBytes}
 use Rattle.cabinet_text_grammar.specs.Keys.{ordered, hashed, kept}
 use Rattle.cabinet_text_grammar.specs.Tree.{truth, number, text, Tree, leaf, shared, nothing, just, list, map, whole, Trees, no_trees, more_trees, count, depth, IsLegal, AreLegal, Pairs, no_pairs as no_pairs_of, more_pairs as more_pairs_of, pair_count, ArePairs}
 use Rattle.cabinet_text_grammar.proofs.Tables.{table_wholes}

@@ -2,10 +2,10 @@
 use Rattle.std.proofs.Common.{◌≡◌, ◌≢◌, ℕ, zero, suc, ◌+◌, ◌≤◌, Bool, true, false, List, [], ◌∷◌, ◌++◌, length, Some, refl, sym, ap, ap₂, ◌∙◌, ⊎_elim}
 use Rattle.std.specs.Str.{bytes_eq}
 use Rattle.std.proofs.lemmas.Slice.Eq.{bytes_eq-Decides}
-use Rattle.archive_forms_values.specs.ShapeLayout.Edit.{Apart}
-use Rattle.archive_forms_values.specs.ShapeLayout.Holds.{root_position}
-use Rattle.archive_forms_values.specs.ArchiveShape.Bytes.{overwrite}
-use Rattle.archive_forms_values.proofs.ArchiveShape.Written.{overwrites_commute}
+use Rattle.archive_shape_layout.specs.Edit.{Apart}
+use Rattle.archive_shape_layout.specs.Holds.{root_position}
+use Rattle.archive_shape.specs.Bytes.{overwrite}
+use Rattle.archive_shape.proofs.Written.{overwrites_commute}
 use Rattle.cabinet_text_grammar.specs.Tree.{Leaf, Tree, leaf, shared, nothing, just, list, map, whole, Trees, no_trees, more_trees, Pairs, no_pairs, more_pairs}
 use Rattle.cabinet_text_grammar.specs.Path.{Step, key, place, inside, node_at, node_in, node_by}
 use Rattle.cabinet_text_grammar.specs.Answering.{change, change_in, change_by}

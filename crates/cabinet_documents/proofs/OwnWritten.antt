@@ -5,28 +5,28 @@ use Rattle.std.proofs.lemmas.List.{length-take, drop_at}
 use Rattle.std.proofs.lemmas.Int.{to_z-of_z}
 use Rattle.std.proofs.lemmas.Nat.{from_le_bytes-to_le_bytes_8}
 use Rattle.std.specs.Int.{from_le_bytes, to_le_bytes, cast_signed, cast_unsigned}
-use Rattle.archive_forms_values.specs.ShapeLayout.Bytes.{window, word_at, target_from}
-use Rattle.archive_forms_values.specs.ShapeLayout.Shape.{Shape, size_of}
-use Rattle.archive_forms_values.specs.ShapeLayout.Shape.Shape.{text as text_shape, truth as truth_shape, number as number_shape}
-use Rattle.archive_forms_values.specs.ShapeLayout.Shape.Pointee.{str}
-use Rattle.archive_forms_values.specs.ShapeLayout.Value.{Value}
-use Rattle.archive_forms_values.specs.ShapeLayout.Value.Value.{string, boolean, integer}
-use Rattle.archive_forms_values.specs.ShapeLayout.Content.{Names, Part, Label, content_of, choose, following, shape_content, text_content, text_length, begins_inline, before_ff, IsInline, number_value}
-use Rattle.archive_forms_values.specs.ShapeLayout.Content.Part.{at, behind}
-use Rattle.archive_forms_values.specs.ShapeLayout.Content.Label.{written, same, leaf as leaf_label}
-use Rattle.archive_forms_values.specs.ShapeLayout.Content.Content.{plain, illegal}
-use Rattle.archive_forms_values.specs.ShapeLayout.Holds.{Region, Visit, OpenShared, HasRoot, Holds}
-use Rattle.archive_forms_values.specs.ShapeLayout.Edit.{Spares, IsLeafIn}
-use Rattle.archive_forms_values.specs.ShapeLayout.Edit.IsLeafIn.{in_place, out_of_line}
-use Rattle.archive_forms_values.proofs.ShapeLayout.Texts.{text_before, split_at_filler}
-use Rattle.archive_forms_values.proofs.ShapeLayout.Utf8.{utf8_byte}
-use Rattle.archive_forms_values.specs.ShapeCanonical.Canonical.{AreBytes}
-use Rattle.archive_forms_values.proofs.ShapeCanonical.Small.{small_none, small_more, small_word, behind_all}
-use Rattle.archive_forms_values.proofs.ShapeLayout.Leaves.{leaf_within_law}
-use Rattle.archive_forms_values.specs.ArchiveShape.Bytes.{overwrite}
-use Rattle.archive_forms_values.specs.ArchiveShape.Sealing.{StandsInRoot}
-use Rattle.archive_forms_values.proofs.ArchiveShape.Sealed.{held as held_at, inline_after}
-use Rattle.archive_forms_values.proofs.ArchiveShape.Written.{overwrite_spares_law, window_from}
+use Rattle.archive_shape_layout.specs.Bytes.{window, word_at, target_from}
+use Rattle.archive_shape_layout.specs.Shape.{Shape, size_of}
+use Rattle.archive_shape_layout.specs.Shape.Shape.{text as text_shape, truth as truth_shape, number as number_shape}
+use Rattle.archive_shape_layout.specs.Shape.Pointee.{str}
+use Rattle.archive_shape_layout.specs.Value.{Value}
+use Rattle.archive_shape_layout.specs.Value.Value.{string, boolean, integer}
+use Rattle.archive_shape_layout.specs.Content.{Names, Part, Label, content_of, choose, following, shape_content, text_content, text_length, begins_inline, before_ff, IsInline, number_value}
+use Rattle.archive_shape_layout.specs.Content.Part.{at, behind}
+use Rattle.archive_shape_layout.specs.Content.Label.{written, same, leaf as leaf_label}
+use Rattle.archive_shape_layout.specs.Content.Content.{plain, illegal}
+use Rattle.archive_shape_layout.specs.Holds.{Region, Visit, OpenShared, HasRoot, Holds}
+use Rattle.archive_shape_layout.specs.Edit.{Spares, IsLeafIn}
+use Rattle.archive_shape_layout.specs.Edit.IsLeafIn.{in_place, out_of_line}
+use Rattle.archive_shape_layout.proofs.Texts.{text_before, split_at_filler}
+use Rattle.archive_shape_layout.proofs.Utf8.{utf8_byte}
+use Rattle.archive_shape_canonical.specs.Canonical.{AreBytes}
+use Rattle.archive_shape_canonical.proofs.Small.{small_none, small_more, small_word, behind_all}
+use Rattle.archive_shape_layout.proofs.Leaves.{leaf_within_law}
+use Rattle.archive_shape.specs.Bytes.{overwrite}
+use Rattle.archive_shape.specs.Sealing.{StandsInRoot}
+use Rattle.archive_shape.proofs.Sealed.{held as held_at, inline_after}
+use Rattle.archive_shape.proofs.Written.{overwrite_spares_law, window_from}
 use Rattle.cabinet_text_grammar.specs.Tree.{Leaf, truth, number, text, IsLeaf}
 use Rattle.cabinet_text_grammar.specs.Answering.{fits}
 use Rattle.cabinet_documents.specs.Node.{node_names, node_shape, own_bytes, truth_byte}

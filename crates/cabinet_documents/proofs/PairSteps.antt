@@ -1,18 +1,18 @@
 -- From a pair to its node, which is the second of two parts: what holds there, and that it lies in the pair.
 use Rattle.std.proofs.Common.{◌≡◌, ℕ, ◌+◌, List, [], ◌∷◌, Some, refl, sym, ap, subst, ◌∙◌}
-use Rattle.archive_forms_values.specs.ShapeLayout.Bytes.{align_up}
-use Rattle.archive_forms_values.specs.ShapeLayout.Value.{Value, Values}
-use Rattle.archive_forms_values.specs.ShapeLayout.Value.Value.{group}
-use Rattle.archive_forms_values.specs.ShapeLayout.Value.Values.{no_values, more_values}
-use Rattle.archive_forms_values.specs.ShapeLayout.Content.{Part, content_of, made, members, shape_content, fields}
-use Rattle.archive_forms_values.specs.ShapeLayout.Content.Label.{whole}
-use Rattle.archive_forms_values.specs.ShapeLayout.Content.Content.{plain}
-use Rattle.archive_forms_values.specs.ShapeLayout.Holds.{Region, Visit, OpenShared, Holds, HoldAll}
-use Rattle.archive_forms_values.specs.ShapeLayout.Holds.HoldAll.{holds_more}
-use Rattle.archive_forms_values.specs.ShapeLayout.Path.{Stands, StandsIn, value_in}
-use Rattle.archive_forms_values.specs.ShapeLayout.Path.Stands.{stands_plain}
-use Rattle.archive_forms_values.specs.ShapeLayout.Path.StandsIn.{stands_first, stands_later}
-use Rattle.archive_forms_values.proofs.ShapeLayout.Unique.{by_plain}
+use Rattle.archive_shape_layout.specs.Bytes.{align_up}
+use Rattle.archive_shape_layout.specs.Value.{Value, Values}
+use Rattle.archive_shape_layout.specs.Value.Value.{group}
+use Rattle.archive_shape_layout.specs.Value.Values.{no_values, more_values}
+use Rattle.archive_shape_layout.specs.Content.{Part, content_of, made, members, shape_content, fields}
+use Rattle.archive_shape_layout.specs.Content.Label.{whole}
+use Rattle.archive_shape_layout.specs.Content.Content.{plain}
+use Rattle.archive_shape_layout.specs.Holds.{Region, Visit, OpenShared, Holds, HoldAll}
+use Rattle.archive_shape_layout.specs.Holds.HoldAll.{holds_more}
+use Rattle.archive_shape_layout.specs.Path.{Stands, StandsIn, value_in}
+use Rattle.archive_shape_layout.specs.Path.Stands.{stands_plain}
+use Rattle.archive_shape_layout.specs.Path.StandsIn.{stands_first, stands_later}
+use Rattle.archive_shape_layout.proofs.Unique.{by_plain}
 use Rattle.cabinet_documents.specs.Node.{node_names}
 use Rattle.cabinet_documents.specs.Denotes.{pair_value}
 use Rattle.cabinet_documents.proofs.Places.{node_here, text_here, pair_here, part_of}

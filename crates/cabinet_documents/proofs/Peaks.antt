@@ -2,16 +2,16 @@
 -- of maps where those of the value are.
 use Rattle.std.proofs.Common.{◌≡◌, ℕ, zero, suc, ◌+◌, ◌-◌, ◌*◌, nat_lt, max, Bool, true, false, cond, ◌==◌, List, [], ◌∷◌, ◌++◌, length, Some, None, refl, sym, ap, subst, ◌∙◌, arith, append-nil}
 use Rattle.std.specs.Prelude.{⊤}
-use Rattle.archive_forms_values.specs.ShapeLayout.Value.{Value, Values, count_values}
-use Rattle.archive_forms_values.specs.ShapeLayout.Value.Value.{natural, integer, boolean, string, group, chosen, counted}
-use Rattle.archive_forms_values.specs.ShapeLayout.Value.Values.{no_values, more_values}
-use Rattle.archive_forms_values.specs.ShapeLayout.Shape.Shape.{text}
-use Rattle.archive_forms_values.specs.ShapeLayout.Shape.Pointee.{sized, str}
-use Rattle.archive_forms_values.specs.ShapeLayout.Shape.{Pointee}
-use Rattle.archive_forms_values.specs.ShapeLayout.Content.{Part, Label, Item, content_of, made, members, weave, first_values, other_values}
-use Rattle.archive_forms_values.specs.ShapeLayout.Bytes.{word_at}
-use Rattle.archive_forms_values.specs.ShapeLayout.Content.Label.{same, second, whole, tagged, woven, total}
-use Rattle.archive_forms_values.specs.ShapeLayout.Content.Content.{illegal, plain, counting}
+use Rattle.archive_shape_layout.specs.Value.{Value, Values, count_values}
+use Rattle.archive_shape_layout.specs.Value.Value.{natural, integer, boolean, string, group, chosen, counted}
+use Rattle.archive_shape_layout.specs.Value.Values.{no_values, more_values}
+use Rattle.archive_shape_layout.specs.Shape.Shape.{text}
+use Rattle.archive_shape_layout.specs.Shape.Pointee.{sized, str}
+use Rattle.archive_shape_layout.specs.Shape.{Pointee}
+use Rattle.archive_shape_layout.specs.Content.{Part, Label, Item, content_of, made, members, weave, first_values, other_values}
+use Rattle.archive_shape_layout.specs.Bytes.{word_at}
+use Rattle.archive_shape_layout.specs.Content.Label.{same, second, whole, tagged, woven, total}
+use Rattle.archive_shape_layout.specs.Content.Content.{illegal, plain, counting}
 use Rattle.cabinet_documents.specs.Node.{node_names, node_shape, pair_shape}
 use Rattle.cabinet_documents.specs.Denotes.{tagged_value}
 use Rattle.cabinet_documents.specs.Table.{item_keys, full_from, Findable, table_of, hashed_at, kept_at}

@@ -2,8 +2,8 @@
 -- order of first fit.
 use Rattle.std.proofs.Common.{◌≡◌, ℕ, List, [], ◌∷◌, length, map, refl, sym, ap, ap₂, subst, ◌∙◌}
 use Rattle.std.proofs.lemmas.List.{length-map}
-use Rattle.archive_forms_values.specs.ShapeCanonical.FirstFit.{ascending, fitted_from, map_capacity, places_of, placed, placed_keys, present}
-use Rattle.archive_forms_values.specs.ShapeCanonical.Hash.{text_hash}
+use Rattle.archive_shape_canonical.specs.FirstFit.{ascending, fitted_from, map_capacity, places_of, placed, placed_keys, present}
+use Rattle.archive_shape_canonical.specs.Hash.{text_hash}
 use Rattle.archive_hash_writing.specs.Fitted.{by_place}
 use Rattle.archive_hash_writing.proofs.FirstFitted.{map_twice}
 use Rattle.archive_hash_writing.proofs.Placed.{placed_mapped, keys_by_place}

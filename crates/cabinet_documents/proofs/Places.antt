@@ -5,18 +5,18 @@ use Rattle.std.proofs.lemmas.List.Sums.{sum_by-cons}
 use Rattle.std.proofs.lemmas.Bool.{lt-ltb, le-ltb, leb-true, ltb-true}
 use Rattle.std.proofs.lemmas.Bool.Decides.{leb_tells}
 use Rattle.std.specs.Int.{from_le_bytes, cast_signed}
-use Rattle.archive_forms_values.specs.ShapeLayout.Bytes.{window, align_up, word_at, target_from}
-use Rattle.archive_forms_values.specs.ShapeLayout.Shape.{Shape, align_of, size_of}
-use Rattle.archive_forms_values.specs.ShapeLayout.Shape.Shape.{number, truth, text, option, choice, box, vector, shared, tree, table, index_map}
-use Rattle.archive_forms_values.specs.ShapeLayout.Shape.Pointee.{sized, slice, str}
-use Rattle.archive_forms_values.specs.ShapeLayout.Value.Value.{natural, integer, boolean}
-use Rattle.archive_forms_values.specs.ShapeLayout.Content.{Part, Label, Content, content_of, choose, option_content, shape_tagged, shape_content, pointee_content, text_content, text_length, shared_content, following, begins_inline, before_ff, elements, number_value, children, entries, keys_offset, values_offset, links_offset, node_content, child_content, node_span, words_of, Item, item, place, item_size, item_part, tagged_items, table_parts, control_count, wraps, buckets_span, buckets_content, place_content, fields}
-use Rattle.archive_forms_values.specs.ShapeLayout.Content.Part.{at, behind, node, child, entry, buckets, place_at}
-use Rattle.archive_forms_values.specs.ShapeLayout.Content.Label.{leaf, written, same, second, whole, tagged, woven, total}
-use Rattle.archive_forms_values.specs.ShapeLayout.Content.Content.{illegal, plain, claimed, counting}
-use Rattle.archive_forms_values.specs.ShapeCanonical.Canonical.{AreBytes}
-use Rattle.archive_forms_values.proofs.ArchiveShape.Words.{word_bound}
-use Rattle.archive_forms_values.proofs.ShapeLayout.Windows.{word_within}
+use Rattle.archive_shape_layout.specs.Bytes.{window, align_up, word_at, target_from}
+use Rattle.archive_shape_layout.specs.Shape.{Shape, align_of, size_of}
+use Rattle.archive_shape_layout.specs.Shape.Shape.{number, truth, text, option, choice, box, vector, shared, tree, table, index_map}
+use Rattle.archive_shape_layout.specs.Shape.Pointee.{sized, slice, str}
+use Rattle.archive_shape_layout.specs.Value.Value.{natural, integer, boolean}
+use Rattle.archive_shape_layout.specs.Content.{Part, Label, Content, content_of, choose, option_content, shape_tagged, shape_content, pointee_content, text_content, text_length, shared_content, following, begins_inline, before_ff, elements, number_value, children, entries, keys_offset, values_offset, links_offset, node_content, child_content, node_span, words_of, Item, item, place, item_size, item_part, tagged_items, table_parts, control_count, wraps, buckets_span, buckets_content, place_content, fields}
+use Rattle.archive_shape_layout.specs.Content.Part.{at, behind, node, child, entry, buckets, place_at}
+use Rattle.archive_shape_layout.specs.Content.Label.{leaf, written, same, second, whole, tagged, woven, total}
+use Rattle.archive_shape_layout.specs.Content.Content.{illegal, plain, claimed, counting}
+use Rattle.archive_shape_canonical.specs.Canonical.{AreBytes}
+use Rattle.archive_shape.proofs.Words.{word_bound}
+use Rattle.archive_shape_layout.proofs.Windows.{word_within}
 use Rattle.cabinet_documents.specs.Node.{node_shape, pair_shape, node_names, payloads, whole_shape}
 use Rattle.cabinet_documents.specs.Table.{full_from}
 

@@ -4,21 +4,21 @@ use Rattle.std.specs.Int.{w64}
 use Rattle.std.specs.List.{AllByRecursion}
 use Rattle.std.proofs.lemmas.Bool.{cases_lt}
 use Rattle.std.proofs.lemmas.List.{nil_from_length, length-map}
-use Rattle.archive_forms_values.specs.ShapeLayout.Bytes.{align_up}
-use Rattle.archive_forms_values.specs.ShapeLayout.Shape.{Shape, size_of, align_of}
-use Rattle.archive_forms_values.specs.ShapeLayout.Shape.Shape.{number, truth, text, option, choice, vector, tree, table, index_map, shared as shared_shape}
-use Rattle.archive_forms_values.specs.ShapeLayout.Shape.Pointee.{sized, str}
-use Rattle.archive_forms_values.specs.ShapeLayout.Value.{Value, Values, count_values}
-use Rattle.archive_forms_values.specs.ShapeLayout.Value.Value.{integer, boolean, string, group, chosen, counted}
-use Rattle.archive_forms_values.specs.ShapeLayout.Value.Values.{no_values, more_values}
-use Rattle.archive_forms_values.specs.ShapeLayout.Content.{shape_tagged, fields, elements}
-use Rattle.archive_forms_values.specs.ShapeLayout.Content.Part.{at}
-use Rattle.archive_forms_values.specs.ShapeCanonical.Packed.{levels_for}
-use Rattle.archive_forms_values.specs.ShapeCanonical.Settled.{Fit}
-use Rattle.archive_forms_values.specs.ShapeCanonical.Sharing.{erased, all_erased}
-use Rattle.archive_forms_values.specs.ShapeCanonical.Plan.{Plan, flat, parts, leads, leads_to_text, counts, Target, Plans, no_plans, more_plans, whole_target, truth_is_flat, number_is_flat, HasPlan, plan_flat, plan_inline, plan_text, plan_tuple, plan_none, plan_some, plan_choice, plan_box, plan_vector, plan_shared, plan_no_tree, plan_tree, plan_no_table, plan_table, plan_no_map, plan_map, plan_named, plan_sized, plan_slice, plan_str, HavePlans, plans_none, plans_at}
-use Rattle.archive_forms_values.specs.FormsLaws.Views.{listed as listed_in}
-use Rattle.archive_forms_values.specs.FormsLaws.Sample.{number_shape}
+use Rattle.archive_shape_layout.specs.Bytes.{align_up}
+use Rattle.archive_shape_layout.specs.Shape.{Shape, size_of, align_of}
+use Rattle.archive_shape_layout.specs.Shape.Shape.{number, truth, text, option, choice, vector, tree, table, index_map, shared as shared_shape}
+use Rattle.archive_shape_layout.specs.Shape.Pointee.{sized, str}
+use Rattle.archive_shape_layout.specs.Value.{Value, Values, count_values}
+use Rattle.archive_shape_layout.specs.Value.Value.{integer, boolean, string, group, chosen, counted}
+use Rattle.archive_shape_layout.specs.Value.Values.{no_values, more_values}
+use Rattle.archive_shape_layout.specs.Content.{shape_tagged, fields, elements}
+use Rattle.archive_shape_layout.specs.Content.Part.{at}
+use Rattle.archive_shape_canonical.specs.Packed.{levels_for}
+use Rattle.archive_shape_canonical.specs.Settled.{Fit}
+use Rattle.archive_shape_canonical.specs.Sharing.{erased, all_erased}
+use Rattle.archive_shape_canonical.specs.Plan.{Plan, flat, parts, leads, leads_to_text, counts, Target, Plans, no_plans, more_plans, whole_target, truth_is_flat, number_is_flat, HasPlan, plan_flat, plan_inline, plan_text, plan_tuple, plan_none, plan_some, plan_choice, plan_box, plan_vector, plan_shared, plan_no_tree, plan_tree, plan_no_table, plan_table, plan_no_map, plan_map, plan_named, plan_sized, plan_slice, plan_str, HavePlans, plans_none, plans_at}
+use Rattle.archive_forms_laws.specs.Views.{listed as listed_in}
+use Rattle.archive_forms_laws.specs.Sample.{number_shape}
 use Rattle.archive_btree_spelling.proofs.Parting.{EachIs}
 use Rattle.archive_btree_spelling.proofs.Planned.{pair, listed, count_same, EntryPlan, TreePlan, tree_planned, IsPlanned, tree_has_plan}
 use Rattle.archive_hash_writing.specs.Fitted.{capacity_of, places_of, table_of, controls_of}

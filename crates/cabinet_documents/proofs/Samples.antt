@@ -2,10 +2,10 @@
 use Rattle.std.proofs.Common.{ℕ, ◌<◌, ◌^◌, [], ◌∷◌, IsUtf8, refl, arith}
 use Rattle.std.specs.Int.{w64}
 use Rattle.std.proofs.lemmas.Int.{ints}
-use Rattle.archive_forms_values.specs.ShapeLayout.Bytes.{align_up}
-use Rattle.archive_forms_values.specs.ShapeLayout.Content.{shape_content, number_value}
-use Rattle.archive_forms_values.specs.ArchiveShape.Offsets.{FitsOffset}
-use Rattle.archive_forms_values.proofs.FormsLaws.Gaps.{bytes_number}
+use Rattle.archive_shape_layout.specs.Bytes.{align_up}
+use Rattle.archive_shape_layout.specs.Content.{shape_content, number_value}
+use Rattle.archive_shape.specs.Offsets.{FitsOffset}
+use Rattle.archive_forms_laws.proofs.Gaps.{bytes_number}
 use Rattle.cabinet_text_grammar.proofs.Utf8.{IsUtf8-word}
 use Rattle.cabinet_text_grammar.specs.Tree as document
 use Rattle.cabinet_text_grammar.specs.Tree.{Tree, list, no_trees, more_trees}

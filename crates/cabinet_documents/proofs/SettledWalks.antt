@@ -1,14 +1,14 @@
 -- In the walk of a canonical archive what the layout leaves open is settled at each stop.
 use Rattle.std.proofs.Common.{ℕ, List}
 use Rattle.std.specs.Prelude.{⊤}
-use Rattle.archive_forms_values.specs.ShapeLayout.Value.{Value, Values}
-use Rattle.archive_forms_values.specs.ShapeLayout.Content.{Names, Part}
-use Rattle.archive_forms_values.specs.ShapeLayout.Content.Content.{illegal, plain, claimed, counting}
-use Rattle.archive_forms_values.specs.ShapeLayout.Holds.{Region, Visit, OpenShared, Holds, HoldAll}
-use Rattle.archive_forms_values.specs.ShapeLayout.Holds.Holds.{holds_plain, holds_claimed, holds_first, holds_later, holds_back}
-use Rattle.archive_forms_values.specs.ShapeLayout.Holds.HoldAll.{holds_none, holds_more}
-use Rattle.archive_forms_values.specs.ShapeCanonical.Canonical.{IsCanonical, AreCanonical, end_of}
-use Rattle.archive_forms_values.specs.ShapeCanonical.Settled.{Fit, IsSettled}
+use Rattle.archive_shape_layout.specs.Value.{Value, Values}
+use Rattle.archive_shape_layout.specs.Content.{Names, Part}
+use Rattle.archive_shape_layout.specs.Content.Content.{illegal, plain, claimed, counting}
+use Rattle.archive_shape_layout.specs.Holds.{Region, Visit, OpenShared, Holds, HoldAll}
+use Rattle.archive_shape_layout.specs.Holds.Holds.{holds_plain, holds_claimed, holds_first, holds_later, holds_back}
+use Rattle.archive_shape_layout.specs.Holds.HoldAll.{holds_none, holds_more}
+use Rattle.archive_shape_canonical.specs.Canonical.{IsCanonical, AreCanonical, end_of}
+use Rattle.archive_shape_canonical.specs.Settled.{Fit, IsSettled}
 use Rattle.cabinet_documents.proofs.Walkable.{Knowledge, IsKnown, AreKnown}
 
 module _ (fit : Fit) (bytes : List ℕ) where

@@ -1,15 +1,15 @@
 -- Where two spellings say the same of a value, they say the same of it where it is shared.
 use Rattle.std.proofs.Common.{◌≡◌, ℕ, ◌+◌, List, ◌∷◌, ◌++◌, length, Option, Some, None, refl, ◌⊎◌}
-use Rattle.archive_forms_values.specs.ShapeLayout.Shape.{Pointee}
-use Rattle.archive_forms_values.specs.ShapeLayout.Value.Value.{counted}
-use Rattle.archive_forms_values.specs.ShapeLayout.Holds.{Visit}
-use Rattle.archive_forms_values.specs.ArchiveShape.Bytes.{zeros}
-use Rattle.archive_forms_values.specs.ShapeWriting.declared.error.Error.{Error}
-use Rattle.archive_forms_values.specs.ShapeWriting.declared.error.Error.TheVariants.{CyclicSharedPointer, AlreadyFinished}
-use Rattle.archive_forms_values.specs.FormsLaws.State.{State, with_begun, visit_of_key, IsNoneOf, IsOneOf}
-use Rattle.archive_forms_values.specs.FormsLaws.Spelling.{Spelling}
-use Rattle.archive_forms_values.specs.FormsLaws.Shared.{shared_padding, shared_value, shared_piece, shared_resolver, shared_met, shared_fits, shared_refused, shared_spelling}
-use Rattle.archive_forms_values.proofs.FormsLaws.Agreeing.{said}
+use Rattle.archive_shape_layout.specs.Shape.{Pointee}
+use Rattle.archive_shape_layout.specs.Value.Value.{counted}
+use Rattle.archive_shape_layout.specs.Holds.{Visit}
+use Rattle.archive_shape.specs.Bytes.{zeros}
+use Rattle.archive_shape_layout.specs.declared.error.Error.{Error}
+use Rattle.archive_shape_layout.specs.declared.error.Error.TheVariants.{CyclicSharedPointer, AlreadyFinished}
+use Rattle.archive_forms_laws.specs.State.{State, with_begun, visit_of_key, IsNoneOf, IsOneOf}
+use Rattle.archive_forms_laws.specs.Spelling.{Spelling}
+use Rattle.archive_forms_laws.specs.Shared.{shared_padding, shared_value, shared_piece, shared_resolver, shared_met, shared_fits, shared_refused, shared_spelling}
+use Rattle.archive_forms_laws.proofs.Agreeing.{said}
 
 module _ {A : Type 0} (q : Pointee) (len key : A → ℕ) (w u : Spelling A ℕ) (x : A) (same : said w x ≡ said u x) where
   abbrev k : ℕ

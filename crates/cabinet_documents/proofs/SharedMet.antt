@@ -2,11 +2,11 @@
 use Rattle.std.proofs.Common.{◌≡◌, ℕ, cond, List, [], ◌∷◌, Some, None, refl, sym, ap, subst, ◌∙◌, inl, inr}
 use Rattle.std.specs.Prelude.{⊤}
 use Rattle.std.proofs.lemmas.Bool.Decides.{eqb_tells}
-use Rattle.archive_forms_values.specs.ShapeLayout.Shape.{Pointee}
-use Rattle.archive_forms_values.specs.ShapeLayout.Value.{Value}
-use Rattle.archive_forms_values.specs.ShapeLayout.Holds.{Visit}
-use Rattle.archive_forms_values.specs.ShapeCanonical.Limits.{Shared, IsUnmet, IsMetAt}
-use Rattle.archive_forms_values.specs.FormsLaws.State.{Met, Keys, SharedValue, AreOneToOne, IsNoneOf, visit_of_key}
+use Rattle.archive_shape_layout.specs.Shape.{Pointee}
+use Rattle.archive_shape_layout.specs.Value.{Value}
+use Rattle.archive_shape_layout.specs.Holds.{Visit}
+use Rattle.archive_shape_canonical.specs.Limits.{Shared, IsUnmet, IsMetAt}
+use Rattle.archive_forms_laws.specs.State.{Met, Keys, SharedValue, AreOneToOne, IsNoneOf, visit_of_key}
 use Rattle.cabinet_documents.specs.SharedKeys.{key_of_text}
 use Rattle.cabinet_documents.proofs.Values.{shared_string}
 

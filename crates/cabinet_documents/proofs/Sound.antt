@@ -1,15 +1,15 @@
 -- Where nothing is unsound, the audit finds no fault.
 use Rattle.std.proofs.Common.{◌≡◌, ℕ, ◌<◌, Bool, true, false, cond, nat_lt, List, [], ◌++◌, Option, Some, None, refl, sym, ap, subst, ◌∙◌, lt-ltb}
 use Rattle.std.specs.List.{Contains}
-use Rattle.archive_forms_values.proofs.ShapeLayout.Unique.{one_value_law}
+use Rattle.archive_shape_layout.proofs.Unique.{one_value_law}
 use Rattle.cabinet_documents.specs.Denotes.{Denotes}
 use Rattle.cabinet_documents.specs.Walk.{Stop, is_container}
 use Rattle.cabinet_documents.specs.Table.{hashed_at, kept_at, table_of}
 use Rattle.cabinet_documents.proofs.Found.{none_of, no_kept_faults, no_hashed_faults}
-use Rattle.archive_forms_values.specs.ShapeLayout.Value.{Value}
-use Rattle.archive_forms_values.specs.ShapeLayout.Shape.Shape.{number, nonzero, truth, character, text, tuple, array, option, result, choice, box, vector, shared, weak, tree, table, index_map, named}
-use Rattle.archive_forms_values.specs.ShapeLayout.Content.{Part}
-use Rattle.archive_forms_values.specs.ShapeLayout.Content.Part.{at, behind, node, child, entry, buckets, place_at}
+use Rattle.archive_shape_layout.specs.Value.{Value}
+use Rattle.archive_shape_layout.specs.Shape.Shape.{number, nonzero, truth, character, text, tuple, array, option, result, choice, box, vector, shared, weak, tree, table, index_map, named}
+use Rattle.archive_shape_layout.specs.Content.{Part}
+use Rattle.archive_shape_layout.specs.Content.Part.{at, behind, node, child, entry, buckets, place_at}
 use Rattle.cabinet_documents.specs.Audit.{Unsound, too_deep, keys_not_ascending, first_of, faults, deep_faults, map_faults, unless, IsSound, IsMapSound, root_part}
 use Rattle.cabinet_documents.specs.Laws.{OneDocument, OneAuditFault, RefusedIsNotAccepted}
 use Rattle.cabinet_documents.specs.Node.{node_names}

@@ -1,8 +1,8 @@
 -- Bytes are accepted where a node holds at the root and its value denotes a document.
 use Rattle.std.proofs.Common.{◌≡◌, ℕ, ◌<◌, true, List, length, refl, arith}
 use Rattle.std.specs.List.{Contains}
-use Rattle.archive_forms_values.specs.ShapeLayout.Value.{Value}
-use Rattle.archive_forms_values.specs.ShapeLayout.Holds.{Region, Visit, HasRoot, root_position}
+use Rattle.archive_shape_layout.specs.Value.{Value}
+use Rattle.archive_shape_layout.specs.Holds.{Region, Visit, HasRoot, root_position}
 use Rattle.cabinet_text_grammar.specs.Tree.{Tree}
 use Rattle.cabinet_text_grammar.specs.Wholes.{IsDocument}
 use Rattle.cabinet_documents.specs.Node.{node_shape, node_names}

@@ -2,19 +2,19 @@
 use Rattle.std.proofs.Common.{◌≡◌, ℕ, zero, suc, ◌+◌, ◌*◌, Bool, true, false, List, [], ◌∷◌, Some, refl, sym, ap, subst, ◌∙◌, arith}
 use Rattle.std.specs.Prelude.{⊤}
 use Rattle.std.specs.List.{slice_get}
-use Rattle.archive_forms_values.specs.ShapeLayout.Value.{Value, Values, count_values}
-use Rattle.archive_forms_values.specs.ShapeLayout.Value.Value.{group, string}
-use Rattle.archive_forms_values.specs.ShapeLayout.Value.Values.{no_values, more_values}
-use Rattle.archive_forms_values.specs.ShapeLayout.Content.{Part, Label, Span, content_of, made, shape_content, pointee_content, choose, elements}
-use Rattle.archive_forms_values.specs.ShapeLayout.Bytes.{align_up, window}
-use Rattle.archive_forms_values.specs.ShapeLayout.Content.Label.{same, whole, tagged, written}
-use Rattle.archive_forms_values.specs.ShapeLayout.Content.Content.{plain, claimed}
-use Rattle.archive_forms_values.specs.ShapeLayout.Holds.{Region, Visit, OpenShared, Holds, HoldAll}
-use Rattle.archive_forms_values.specs.ShapeLayout.Holds.HoldAll.{holds_none, holds_more}
-use Rattle.archive_forms_values.specs.ShapeLayout.Path.{Stands, StandsIn, through, value_in}
-use Rattle.archive_forms_values.specs.ShapeLayout.Path.Stands.{stands_plain, stands_claimed}
-use Rattle.archive_forms_values.specs.ShapeLayout.Path.StandsIn.{stands_first, stands_later}
-use Rattle.archive_forms_values.proofs.ShapeLayout.Unique.{by_plain, by_claimed}
+use Rattle.archive_shape_layout.specs.Value.{Value, Values, count_values}
+use Rattle.archive_shape_layout.specs.Value.Value.{group, string}
+use Rattle.archive_shape_layout.specs.Value.Values.{no_values, more_values}
+use Rattle.archive_shape_layout.specs.Content.{Part, Label, Span, content_of, made, shape_content, pointee_content, choose, elements}
+use Rattle.archive_shape_layout.specs.Bytes.{align_up, window}
+use Rattle.archive_shape_layout.specs.Content.Label.{same, whole, tagged, written}
+use Rattle.archive_shape_layout.specs.Content.Content.{plain, claimed}
+use Rattle.archive_shape_layout.specs.Holds.{Region, Visit, OpenShared, Holds, HoldAll}
+use Rattle.archive_shape_layout.specs.Holds.HoldAll.{holds_none, holds_more}
+use Rattle.archive_shape_layout.specs.Path.{Stands, StandsIn, through, value_in}
+use Rattle.archive_shape_layout.specs.Path.Stands.{stands_plain, stands_claimed}
+use Rattle.archive_shape_layout.specs.Path.StandsIn.{stands_first, stands_later}
+use Rattle.archive_shape_layout.proofs.Unique.{by_plain, by_claimed}
 use Rattle.cabinet_documents.specs.Node.{node_names, node_shape}
 use Rattle.cabinet_documents.specs.Denotes.{tagged_value}
 use Rattle.cabinet_documents.proofs.Places.{Place, node_here, payload_here, truth_here, number_here, text_here, shared_here, option_here, box_here, list_here, ordered_here, table_here, index_here, whole_here, tree_child, node_behind, nodes_behind, text_behind, Spot, part_of, parts_at, each_from, nodes_from, nodes_are, Passes, node_passes, box_passes, behind_passes, list_passes, text_passes, child_passes, table_passes, Pays, Follows, passes, pays, truth_is, number_is, text_is, none_is, some_is, Leads, leads_nowhere, leads_plain, leads_claimed, led}

@@ -3,9 +3,9 @@
 use Rattle.std.proofs.Common.{◌≡◌, ℕ, zero, suc, ◌+◌, ◌<◌, ◌≤◌, max, Bool, true, false, cond, List, [], ◌∷◌, ◌++◌, take, drop, refl, sym, ap, subst, ◌∙◌, arith}
 use Rattle.std.specs.Prelude.{⊤}
 use Rattle.std.specs.List.{flat_map, Contains}
-use Rattle.archive_forms_values.specs.ShapeLayout.Content.{Content}
-use Rattle.archive_forms_values.specs.ShapeLayout.Content.Label.{leaf, written, same, second, whole, tagged, woven, total}
-use Rattle.archive_forms_values.specs.ShapeLayout.Content.Content.{illegal, plain, claimed, counting}
+use Rattle.archive_shape_layout.specs.Content.{Content}
+use Rattle.archive_shape_layout.specs.Content.Label.{leaf, written, same, second, whole, tagged, woven, total}
+use Rattle.archive_shape_layout.specs.Content.Content.{illegal, plain, claimed, counting}
 use Rattle.cabinet_documents.specs.Walk.{Stop, is_container, joined, in_turn}
 
 -- ---- how many containers lie in one another in a walk, from a depth

@@ -3,22 +3,22 @@ use Rattle.std.proofs.Common.{◌≡◌, ℕ, ◌+◌, ◌-◌, ◌*◌, ◌≤�
 use Rattle.std.specs.List.{AllByRecursion}
 use Rattle.std.proofs.lemmas.Bool.{cases_lt}
 use Rattle.std.proofs.lemmas.List.{length-replicate}
-use Rattle.archive_forms_values.specs.ShapeLayout.Bytes.{align_up}
-use Rattle.archive_forms_values.specs.ShapeLayout.Shape.{Shape, size_of, align_of}
-use Rattle.archive_forms_values.specs.ShapeLayout.Content.{control_count}
-use Rattle.archive_forms_values.proofs.ShapeLayout.Framed.{le_align_up}
-use Rattle.archive_forms_values.specs.ShapeWriting.declared.error.Error.{Error}
-use Rattle.archive_forms_values.specs.ShapeWriting.declared.error.Error.TheVariants.{PositionTooLarge}
-use Rattle.archive_forms_values.specs.ShapeCanonical.FirstFit.{present}
-use Rattle.archive_forms_values.specs.ShapeCanonical.Settled.{Fit}
-use Rattle.archive_forms_values.specs.ShapeCanonical.Plan.{Plan, leads}
-use Rattle.archive_forms_values.specs.ShapeCanonical.Limits.{Field, IsSomePast, Shared, moved, Lies, lies_leads}
-use Rattle.archive_forms_values.specs.ShapeCanonical.Limits as limits
-use Rattle.archive_forms_values.specs.ArchiveShape.Bytes.{zeros}
-use Rattle.archive_forms_values.specs.FormsLaws.State.{State}
-use Rattle.archive_forms_values.specs.FormsLaws.Spelling.{Spelling, state_after}
-use Rattle.archive_forms_values.specs.FormsLaws.Regions.{pieces, pieces_refused}
-use Rattle.archive_forms_values.proofs.FormsLaws.Regions.{state_after_all_pos}
+use Rattle.archive_shape_layout.specs.Bytes.{align_up}
+use Rattle.archive_shape_layout.specs.Shape.{Shape, size_of, align_of}
+use Rattle.archive_shape_layout.specs.Content.{control_count}
+use Rattle.archive_shape_layout.proofs.Framed.{le_align_up}
+use Rattle.archive_shape_layout.specs.declared.error.Error.{Error}
+use Rattle.archive_shape_layout.specs.declared.error.Error.TheVariants.{PositionTooLarge}
+use Rattle.archive_shape_canonical.specs.FirstFit.{present}
+use Rattle.archive_shape_canonical.specs.Settled.{Fit}
+use Rattle.archive_shape_canonical.specs.Plan.{Plan, leads}
+use Rattle.archive_shape_canonical.specs.Limits.{Field, IsSomePast, Shared, moved, Lies, lies_leads}
+use Rattle.archive_shape_canonical.specs.Limits as limits
+use Rattle.archive_shape.specs.Bytes.{zeros}
+use Rattle.archive_forms_laws.specs.State.{State}
+use Rattle.archive_forms_laws.specs.Spelling.{Spelling, state_after}
+use Rattle.archive_forms_laws.specs.Regions.{pieces, pieces_refused}
+use Rattle.archive_forms_laws.proofs.Regions.{state_after_all_pos}
 use Rattle.archive_hash_writing.specs.Fitted.{capacity_of, table_of, controls_of}
 use Rattle.archive_hash_writing.specs.Tables.{buckets, buckets_refused, state_after_items, region_from, controls_at, filled_piece, IsPlaced}
 use Rattle.archive_hash_writing.specs.Tables.{hashed_spelling as of_hashes}

@@ -1,18 +1,18 @@
 -- What the entries of a search tree's node store, and what lies below its pointers, against the limits of how they are
 -- written.
 use Rattle.std.proofs.Common.{◌≡◌, ℕ, zero, suc, ◌+◌, ◌<◌, ◌≤◌, List, [], ◌∷◌, ◌++◌, map as mapped, length, Option, None, refl, sym, ap, subst, ◌∙◌, arith, ◌⊎◌, inl, inr, ⊎_elim, append_assoc, add-zero}
-use Rattle.archive_forms_values.specs.ShapeLayout.Shape.{size_of}
-use Rattle.archive_forms_values.specs.ShapeLayout.Shape.Shape.{text}
-use Rattle.archive_forms_values.specs.ShapeWriting.declared.error.Error.{Error}
-use Rattle.archive_forms_values.specs.ShapeCanonical.Settled.{Fit}
-use Rattle.archive_forms_values.specs.ShapeCanonical.Plan.{Target, Plan, leads, Plans}
-use Rattle.archive_forms_values.specs.ShapeCanonical.Limits.{Field, count, IsSomePast, Shared, Lies, LieAll, lie_none}
-use Rattle.archive_forms_values.specs.ShapeCanonical.Limits as limits
-use Rattle.archive_forms_values.specs.FormsLaws.State.{State, visit_of_key}
-use Rattle.archive_forms_values.specs.FormsLaws.Spelling.{Spelling, state_after}
-use Rattle.archive_forms_values.specs.FormsLaws.Regions.{state_after_all, resolvers, pieces_refused}
-use Rattle.archive_forms_values.specs.FormsLaws.Links.{LinkRefused}
-use Rattle.archive_forms_rc.specs.FormsWriting.Owned.{str_spelling}
+use Rattle.archive_shape_layout.specs.Shape.{size_of}
+use Rattle.archive_shape_layout.specs.Shape.Shape.{text}
+use Rattle.archive_shape_layout.specs.declared.error.Error.{Error}
+use Rattle.archive_shape_canonical.specs.Settled.{Fit}
+use Rattle.archive_shape_canonical.specs.Plan.{Target, Plan, leads, Plans}
+use Rattle.archive_shape_canonical.specs.Limits.{Field, count, IsSomePast, Shared, Lies, LieAll, lie_none}
+use Rattle.archive_shape_canonical.specs.Limits as limits
+use Rattle.archive_forms_laws.specs.State.{State, visit_of_key}
+use Rattle.archive_forms_laws.specs.Spelling.{Spelling, state_after}
+use Rattle.archive_forms_laws.specs.Regions.{state_after_all, resolvers, pieces_refused}
+use Rattle.archive_forms_laws.specs.Links.{LinkRefused}
+use Rattle.archive_forms_writing.specs.Owned.{str_spelling}
 use Rattle.archive_btree_spelling.specs.Written.{AnySlot, LinksRefused}
 use Rattle.archive_btree_spelling.specs.Maps.{packed_spelling}
 use Rattle.archive_btree_spelling.proofs.Parting.{EachIs}

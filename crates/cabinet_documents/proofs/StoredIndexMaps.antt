@@ -3,29 +3,29 @@ use Rattle.std.proofs.Common.{◌≡◌, ℕ, ◌+◌, ◌-◌, ◌*◌, List, [
 use Rattle.std.specs.List.{AllByRecursion, range_with_len}
 use Rattle.std.proofs.lemmas.List.{length-map}
 use Rattle.std.proofs.lemmas.List.FromFn.{length-range_with_len}
-use Rattle.archive_forms_values.specs.ShapeLayout.Value.{Values, count_values}
-use Rattle.archive_forms_values.specs.ShapeLayout.Content.{control_count}
-use Rattle.archive_forms_values.specs.ShapeWriting.declared.error.Error.{Error}
-use Rattle.archive_forms_values.specs.ShapeCanonical.FirstFit.{capacity_for, present}
-use Rattle.archive_forms_values.specs.ShapeCanonical.Hash.{text_hash}
-use Rattle.archive_forms_values.specs.ShapeCanonical.Settled.{Fit}
-use Rattle.archive_forms_values.specs.ShapeCanonical.Sharing.{all_erased}
-use Rattle.archive_forms_values.specs.ShapeCanonical.Plan.{Plan, flat, parts, leads, Plans, no_plans, more_plans}
-use Rattle.archive_forms_values.specs.ShapeCanonical.Limits.{Field, IsSomePast, Shared, Lies, lies_parts, lie_none}
-use Rattle.archive_forms_values.specs.ShapeCanonical.Limits as limits
-use Rattle.archive_forms_values.specs.FormsLaws.State.{State, visit_of_key}
-use Rattle.archive_forms_values.specs.FormsLaws.Spelling.{Spelling, state_after}
-use Rattle.archive_forms_values.specs.FormsLaws.Regions.{pieces_refused, region_piece}
-use Rattle.archive_forms_values.specs.FormsLaws.Sample.{number_shape, number_spelling}
-use Rattle.archive_forms_values.specs.FormsLaws.Views.{listed}
+use Rattle.archive_shape_layout.specs.Value.{Values, count_values}
+use Rattle.archive_shape_layout.specs.Content.{control_count}
+use Rattle.archive_shape_layout.specs.declared.error.Error.{Error}
+use Rattle.archive_shape_canonical.specs.FirstFit.{capacity_for, present}
+use Rattle.archive_shape_canonical.specs.Hash.{text_hash}
+use Rattle.archive_shape_canonical.specs.Settled.{Fit}
+use Rattle.archive_shape_canonical.specs.Sharing.{all_erased}
+use Rattle.archive_shape_canonical.specs.Plan.{Plan, flat, parts, leads, Plans, no_plans, more_plans}
+use Rattle.archive_shape_canonical.specs.Limits.{Field, IsSomePast, Shared, Lies, lies_parts, lie_none}
+use Rattle.archive_shape_canonical.specs.Limits as limits
+use Rattle.archive_forms_laws.specs.State.{State, visit_of_key}
+use Rattle.archive_forms_laws.specs.Spelling.{Spelling, state_after}
+use Rattle.archive_forms_laws.specs.Regions.{pieces_refused, region_piece}
+use Rattle.archive_forms_laws.specs.Sample.{number_shape, number_spelling}
+use Rattle.archive_forms_laws.specs.Views.{listed}
 use Rattle.archive_btree_spelling.proofs.Parting.{EachIs}
 use Rattle.archive_hash_writing.specs.Fitted.{capacity_of, table_of, controls_of}
 use Rattle.archive_hash_writing.specs.Tables.{buckets_refused, region_from}
 use Rattle.archive_hash_writing.proofs.Planned.{table_target}
 use Rattle.archive_hash_writing.proofs.Small.{text_hashes_small}
 use Rattle.archive_hash_writing.proofs.SpellingFitting.{length-table, controls_of_table}
-use Rattle.archive_index_spelling.specs.Maps.{numbers, numbers_spelling, state_behind, map_spelling}
-use Rattle.archive_index_spelling.proofs.Maps.{numbers_met, numbers_pos}
+use Rattle.archive_hash_writing.specs.IndexMaps.{numbers, numbers_spelling, state_behind, map_spelling}
+use Rattle.archive_hash_writing.proofs.IndexMaps.{numbers_met, numbers_pos}
 use Rattle.cabinet_text_grammar.specs.Tree.{Tree}
 use Rattle.cabinet_documents.specs.Node.{pair_shape}
 use Rattle.cabinet_documents.specs.declared.spelling.resolver.NodeResolver.{NodeResolver}

@@ -5,39 +5,39 @@ use Rattle.std.specs.Int.{w32, w64, to_le_bytes, cast_unsigned}
 use Rattle.std.proofs.Math.Nat.{le-max_left, le-max_right}
 use Rattle.std.specs.Prelude.{IsTrue}
 use Rattle.std.proofs.lemmas.List.{length-replicate}
-use Rattle.archive_forms_values.specs.ShapeLayout.Bytes.{align_up}
-use Rattle.archive_forms_values.specs.ShapeLayout.Shape.{align_of}
-use Rattle.archive_forms_values.specs.ShapeLayout.Shape.Shape.{number, truth, text, option, vector, tree, table, index_map, shared as shared_shape}
-use Rattle.archive_forms_values.specs.ShapeLayout.Shape.Pointee.{str}
-use Rattle.archive_forms_values.specs.ShapeLayout.Value.{Value, count_values}
-use Rattle.archive_forms_values.specs.ShapeLayout.Value.Value.{integer, boolean, string, group, chosen, counted}
-use Rattle.archive_forms_values.specs.ShapeLayout.Value.Values.{no_values}
-use Rattle.archive_forms_values.specs.ShapeLayout.Numbers.{truth_bytes}
-use Rattle.archive_forms_values.proofs.ShapeLayout.Framed.{le_align_up}
-use Rattle.archive_forms_values.specs.ShapeWriting.declared.error.Error.{Error}
-use Rattle.archive_forms_values.specs.ShapeWriting.declared.error.Error.TheVariants.{PositionTooLarge}
-use Rattle.archive_forms_values.specs.ShapeCanonical.FirstFit.{first_fit}
-use Rattle.archive_forms_values.specs.ShapeCanonical.Hash.{text_hash}
-use Rattle.archive_forms_values.specs.ShapeCanonical.Settled.{Fit}
-use Rattle.archive_forms_values.specs.ShapeCanonical.Sharing.{erased}
-use Rattle.archive_forms_values.specs.ShapeCanonical.Plan.{Plan, flat}
-use Rattle.archive_forms_values.specs.ShapeCanonical.Limits.{Field, position, count, IsSomePast, Lies, PastLimits}
-use Rattle.archive_forms_values.specs.ShapeCanonical.Limits as limits
-use Rattle.archive_forms_values.specs.ArchiveShape.Offsets.{offset_bytes}
-use Rattle.archive_forms_values.specs.FormsLaws.State.{State, initial}
-use Rattle.archive_forms_values.specs.FormsLaws.Spelling.{Spelling}
-use Rattle.archive_forms_values.specs.FormsLaws.Regions.{state_after_all, region_at, region_refused}
-use Rattle.archive_forms_values.specs.FormsLaws.Views.{listed}
-use Rattle.archive_forms_values.specs.FormsLaws.Links.{link_bytes}
-use Rattle.archive_forms_values.specs.FormsLaws.Options.{option_own}
-use Rattle.archive_forms_values.specs.FormsLaws.Texts.{is_short, text_own}
-use Rattle.archive_forms_values.specs.FormsLaws.Levels.{levels_spelling}
-use Rattle.archive_forms_values.proofs.FormsLaws.Payloads.{length-tagged}
+use Rattle.archive_shape_layout.specs.Bytes.{align_up}
+use Rattle.archive_shape_layout.specs.Shape.{align_of}
+use Rattle.archive_shape_layout.specs.Shape.Shape.{number, truth, text, option, vector, tree, table, index_map, shared as shared_shape}
+use Rattle.archive_shape_layout.specs.Shape.Pointee.{str}
+use Rattle.archive_shape_layout.specs.Value.{Value, count_values}
+use Rattle.archive_shape_layout.specs.Value.Value.{integer, boolean, string, group, chosen, counted}
+use Rattle.archive_shape_layout.specs.Value.Values.{no_values}
+use Rattle.archive_shape_layout.specs.Numbers.{truth_bytes}
+use Rattle.archive_shape_layout.proofs.Framed.{le_align_up}
+use Rattle.archive_shape_layout.specs.declared.error.Error.{Error}
+use Rattle.archive_shape_layout.specs.declared.error.Error.TheVariants.{PositionTooLarge}
+use Rattle.archive_shape_canonical.specs.FirstFit.{first_fit}
+use Rattle.archive_shape_canonical.specs.Hash.{text_hash}
+use Rattle.archive_shape_canonical.specs.Settled.{Fit}
+use Rattle.archive_shape_canonical.specs.Sharing.{erased}
+use Rattle.archive_shape_canonical.specs.Plan.{Plan, flat}
+use Rattle.archive_shape_canonical.specs.Limits.{Field, position, count, IsSomePast, Lies, PastLimits}
+use Rattle.archive_shape_canonical.specs.Limits as limits
+use Rattle.archive_shape.specs.Offsets.{offset_bytes}
+use Rattle.archive_forms_laws.specs.State.{State, initial}
+use Rattle.archive_forms_laws.specs.Spelling.{Spelling}
+use Rattle.archive_forms_laws.specs.Regions.{state_after_all, region_at, region_refused}
+use Rattle.archive_forms_laws.specs.Views.{listed}
+use Rattle.archive_forms_laws.specs.Links.{link_bytes}
+use Rattle.archive_forms_laws.specs.Options.{option_own}
+use Rattle.archive_forms_laws.specs.Texts.{is_short, text_own}
+use Rattle.archive_forms_laws.specs.Levels.{levels_spelling}
+use Rattle.archive_forms_laws.proofs.Payloads.{length-tagged}
 use Rattle.archive_forms_values.specs.declared.reading.resolving.BoxResolver.{BoxResolver}
-use Rattle.archive_forms_rc.specs.FormsWriting.Owned.{str_spelling}
+use Rattle.archive_forms_writing.specs.Owned.{str_spelling}
 use Rattle.archive_btree_spelling.proofs.Parting.{EachIs}
 use Rattle.archive_hash_writing.specs.Fitted.{capacity_of}
-use Rattle.archive_index_spelling.specs.Maps.{numbers}
+use Rattle.archive_hash_writing.specs.IndexMaps.{numbers}
 use Rattle.cabinet_text_grammar.specs.Keys.{MapKind, ordered, hashed, kept}
 use Rattle.cabinet_text_grammar.specs.Tree as document
 use Rattle.cabinet_text_grammar.specs.Tree.{Tree, Trees, Pairs, leaf, shared, nothing, just, list, map, whole, no_trees, more_trees, no_pairs, more_pairs, depth, most_depth, pairs_depth, IsLegal, AreLegal, ArePairs}

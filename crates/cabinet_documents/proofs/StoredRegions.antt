@@ -1,10 +1,10 @@
 -- What a pointer and the region that it leads to store, by what the contents of the region store, against the limits of
 -- how they are written.
 use Rattle.std.proofs.Common.{◌≡◌, ℕ, ◌≤◌, List, ◌∷◌, ◌++◌, map as mapped, sym, subst, arith, ◌⊎◌, inl, inr, ⊎_elim}
-use Rattle.archive_forms_values.specs.ShapeWriting.declared.error.Error.{Error}
-use Rattle.archive_forms_values.specs.ShapeWriting.declared.error.Error.TheVariants.{IsizeOverflow}
-use Rattle.archive_forms_values.specs.ShapeCanonical.Limits.{Field, offset, position, count, IsSomePast}
-use Rattle.archive_forms_values.specs.ArchiveShape.Offsets.{FitsOffset}
+use Rattle.archive_shape_layout.specs.declared.error.Error.{Error}
+use Rattle.archive_shape_layout.specs.declared.error.Error.TheVariants.{IsizeOverflow}
+use Rattle.archive_shape_canonical.specs.Limits.{Field, offset, position, count, IsSomePast}
+use Rattle.archive_shape.specs.Offsets.{FitsOffset}
 use Rattle.cabinet_documents.proofs.Fields.{past_left, past_right, past_either, offset_past, past_offset, IsFar}
 
 -- the fields within a region, where it begins, and the pointer with the numbers beside it

@@ -1,24 +1,24 @@
 -- What the search trees of ordered maps store, against the limits of how they are written.
 use Rattle.std.proofs.Common.{◌≡◌, ℕ, zero, suc, ◌+◌, ◌*◌, ◌<◌, ◌≤◌, ◌^◌, List, [], ◌∷◌, map as mapped, length, Option, Some, refl, sym, ap, ap₂, subst, ◌∙◌, arith, ◌⊎◌, inl, inr, ⊎_elim, length-append, add-zero}
 use Rattle.std.proofs.lemmas.Bool.{cases_lt}
-use Rattle.archive_forms_values.specs.ShapeLayout.Bytes.{align_up}
-use Rattle.archive_forms_values.specs.ShapeLayout.Shape.{size_of}
-use Rattle.archive_forms_values.specs.ShapeLayout.Shape.Shape.{text}
-use Rattle.archive_forms_values.specs.ShapeLayout.Content.{words_of, keys_offset, values_offset, links_offset, link_node_align, link_node_size}
-use Rattle.archive_forms_values.proofs.ShapeLayout.Framed.{le_align_up, keys_fit, values_fit, links_fit}
-use Rattle.archive_forms_values.specs.ShapeWriting.declared.error.Error.{Error}
-use Rattle.archive_forms_values.specs.ShapeWriting.declared.error.Error.TheVariants.{PositionTooLarge}
-use Rattle.archive_forms_values.specs.ShapeCanonical.Packed.{levels_for}
-use Rattle.archive_forms_values.specs.ShapeCanonical.Settled.{Fit}
-use Rattle.archive_forms_values.specs.ShapeCanonical.Plan.{Target, Plan, flat, leads, Plans}
-use Rattle.archive_forms_values.specs.ShapeCanonical.Limits.{Field, count, IsSomePast, Shared, moved, Lies, lies_parts, lies_leads, LieAll}
-use Rattle.archive_forms_values.specs.ShapeCanonical.Limits as limits
-use Rattle.archive_forms_values.specs.FormsLaws.State.{State}
-use Rattle.archive_forms_values.specs.FormsLaws.Spelling.{Spelling, state_after}
-use Rattle.archive_forms_values.specs.FormsLaws.Regions.{pieces_refused}
-use Rattle.archive_forms_values.specs.FormsLaws.Links.{LinkRefused}
-use Rattle.archive_forms_values.proofs.FormsLaws.Regions.{state_after_all_begun}
-use Rattle.archive_forms_rc.specs.FormsWriting.Owned.{str_spelling}
+use Rattle.archive_shape_layout.specs.Bytes.{align_up}
+use Rattle.archive_shape_layout.specs.Shape.{size_of}
+use Rattle.archive_shape_layout.specs.Shape.Shape.{text}
+use Rattle.archive_shape_layout.specs.Content.{words_of, keys_offset, values_offset, links_offset, link_node_align, link_node_size}
+use Rattle.archive_shape_layout.proofs.Framed.{le_align_up, keys_fit, values_fit, links_fit}
+use Rattle.archive_shape_layout.specs.declared.error.Error.{Error}
+use Rattle.archive_shape_layout.specs.declared.error.Error.TheVariants.{PositionTooLarge}
+use Rattle.archive_shape_canonical.specs.Packed.{levels_for}
+use Rattle.archive_shape_canonical.specs.Settled.{Fit}
+use Rattle.archive_shape_canonical.specs.Plan.{Target, Plan, flat, leads, Plans}
+use Rattle.archive_shape_canonical.specs.Limits.{Field, count, IsSomePast, Shared, moved, Lies, lies_parts, lies_leads, LieAll}
+use Rattle.archive_shape_canonical.specs.Limits as limits
+use Rattle.archive_forms_laws.specs.State.{State}
+use Rattle.archive_forms_laws.specs.Spelling.{Spelling, state_after}
+use Rattle.archive_forms_laws.specs.Regions.{pieces_refused}
+use Rattle.archive_forms_laws.specs.Links.{LinkRefused}
+use Rattle.archive_forms_laws.proofs.Regions.{state_after_all_begun}
+use Rattle.archive_forms_writing.specs.Owned.{str_spelling}
 use Rattle.archive_btree_spelling.specs.Parted.{Parted, shares, between, parted}
 use Rattle.archive_btree_spelling.specs.Written.{key_own, value_own, words, IsPlaced, slots_refused, state_after_children, linked, state_after_entries, node_at, node_piece, node_refused}
 use Rattle.archive_btree_spelling.proofs.Slots.{key_slots, value_slots}

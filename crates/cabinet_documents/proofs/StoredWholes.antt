@@ -2,23 +2,23 @@
 use Rattle.std.proofs.Common.{◌≡◌, ℕ, suc, ◌+◌, ◌-◌, ◌*◌, ◌≤◌, ◌<◌, ◌==◌, cond, Bool, true, false, List, [], ◌∷◌, ◌++◌, length, Option, Some, None, refl, sym, ap, ap₂, subst, ◌∙◌, arith, ◌⊎◌, inl, inr, ⊎_elim, length-append, add-zero, le_refl}
 use Rattle.std.specs.Prelude.{⊤, IsTrue}
 use Rattle.std.proofs.lemmas.Bool.Decides.{eqb_tells}
-use Rattle.archive_forms_values.specs.ShapeLayout.Bytes.{align_up}
-use Rattle.archive_forms_values.specs.ShapeLayout.Shape.{size_of, align_of}
-use Rattle.archive_forms_values.specs.ShapeLayout.Shape.Pointee.{sized}
-use Rattle.archive_forms_values.specs.ShapeLayout.Value.{Value}
-use Rattle.archive_forms_values.specs.ShapeLayout.Holds.{Visit}
-use Rattle.archive_forms_values.specs.ShapeWriting.declared.error.Error.{Error}
-use Rattle.archive_forms_values.specs.ShapeCanonical.Settled.{Fit}
-use Rattle.archive_forms_values.specs.ShapeCanonical.Sharing.{erased, end_of_shared}
-use Rattle.archive_forms_values.specs.ShapeCanonical.Plan.{Plan, whole_target}
-use Rattle.archive_forms_values.specs.ShapeCanonical.Limits.{Field, offset, position, IsSomePast, Shared, IsUnmet, IsMetAt, moved, Lies, lies_first, lies_later}
-use Rattle.archive_forms_values.specs.ShapeCanonical.Limits as limits
-use Rattle.archive_forms_values.specs.ArchiveShape.Bytes.{zeros}
-use Rattle.archive_forms_values.specs.FormsLaws.State.{State, Met, IsOneOf, IsNoneOf, with_begun, visit_of_key}
-use Rattle.archive_forms_values.specs.FormsLaws.Spelling.{Spelling}
-use Rattle.archive_forms_values.specs.FormsLaws.Pointers.{box_spelling}
-use Rattle.archive_forms_values.specs.FormsLaws.Regions.{region_at}
-use Rattle.archive_forms_values.specs.FormsLaws.Shared.{shared_padding, first_visit, shared_piece, shared_resolver, shared_met, shared_refused}
+use Rattle.archive_shape_layout.specs.Bytes.{align_up}
+use Rattle.archive_shape_layout.specs.Shape.{size_of, align_of}
+use Rattle.archive_shape_layout.specs.Shape.Pointee.{sized}
+use Rattle.archive_shape_layout.specs.Value.{Value}
+use Rattle.archive_shape_layout.specs.Holds.{Visit}
+use Rattle.archive_shape_layout.specs.declared.error.Error.{Error}
+use Rattle.archive_shape_canonical.specs.Settled.{Fit}
+use Rattle.archive_shape_canonical.specs.Sharing.{erased, end_of_shared}
+use Rattle.archive_shape_canonical.specs.Plan.{Plan, whole_target}
+use Rattle.archive_shape_canonical.specs.Limits.{Field, offset, position, IsSomePast, Shared, IsUnmet, IsMetAt, moved, Lies, lies_first, lies_later}
+use Rattle.archive_shape_canonical.specs.Limits as limits
+use Rattle.archive_shape.specs.Bytes.{zeros}
+use Rattle.archive_forms_laws.specs.State.{State, Met, IsOneOf, IsNoneOf, with_begun, visit_of_key}
+use Rattle.archive_forms_laws.specs.Spelling.{Spelling}
+use Rattle.archive_forms_laws.specs.Pointers.{box_spelling}
+use Rattle.archive_forms_laws.specs.Regions.{region_at}
+use Rattle.archive_forms_laws.specs.Shared.{shared_padding, first_visit, shared_piece, shared_resolver, shared_met, shared_refused}
 use Rattle.cabinet_text_grammar.specs.Tree.{Tree, depth}
 use Rattle.cabinet_text_grammar.specs.Wholes.{has, number_in, numbered, IsTable}
 use Rattle.cabinet_text_grammar.proofs.Tables.{numbered_back, some_same}

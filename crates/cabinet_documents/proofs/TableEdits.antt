@@ -1,34 +1,34 @@
 -- After a write to one leaf's own bytes, by a path that leads to no key, tables that were sound are sound.
 use Rattle.std.proofs.Common.{◌≡◌, ℕ, suc, ◌+◌, ◌-◌, ◌*◌, ◌≤◌, true, List, [], ◌∷◌, ◌++◌, length, Some, refl, ap, ap₂, sym, subst, ◌∙◌, arith, le_refl, inl, inr, ⊎_elim}
 use Rattle.std.specs.Prelude.{IsUtf8}
-use Rattle.archive_forms_values.specs.ShapeLayout.Bytes.{window}
-use Rattle.archive_forms_values.specs.ShapeLayout.Shape.{Shape, size_of}
-use Rattle.archive_forms_values.specs.ShapeLayout.Shape.Pointee.{sized, str}
-use Rattle.archive_forms_values.specs.ShapeLayout.Value.{Value, Values}
-use Rattle.archive_forms_values.specs.ShapeLayout.Value.Value.{string}
-use Rattle.archive_forms_values.specs.ShapeLayout.Value.Values.{no_values, more_values}
-use Rattle.archive_forms_values.specs.ShapeLayout.Content.{Names, Part, Item, Span, Label, content_of, made, members, IsLegal, pointee_content, item_size, control_count}
-use Rattle.archive_forms_values.specs.ShapeLayout.Content.Part.{at, behind, buckets}
-use Rattle.archive_forms_values.specs.ShapeLayout.Content.Label.{second}
-use Rattle.archive_forms_values.specs.ShapeLayout.Content.Content.{plain, claimed}
-use Rattle.archive_forms_values.specs.ShapeLayout.Laws.{AgreesOn}
-use Rattle.archive_forms_values.specs.ShapeLayout.Holds.{Region, region_of, Visit, OpenShared, Holds, HoldAll, Ascends, HasRoot, end_after}
-use Rattle.archive_forms_values.specs.ShapeLayout.Holds.Holds.{holds_plain, holds_claimed}
-use Rattle.archive_forms_values.specs.ShapeLayout.Holds.HoldAll.{holds_none, holds_more}
-use Rattle.archive_forms_values.specs.ShapeLayout.Edit.{Spares}
-use Rattle.archive_forms_values.specs.ShapeLayout.Path.{change_in, put_at, through, Stands, StandsIn}
-use Rattle.archive_forms_values.specs.ShapeLayout.Path.Stands.{stands_here, stands_plain, stands_claimed}
-use Rattle.archive_forms_values.specs.ShapeLayout.Path.StandsIn.{stands_first, stands_later}
-use Rattle.archive_forms_values.specs.ShapeCanonical.Seen.{seen_bytes_of}
-use Rattle.archive_forms_values.specs.ShapeCanonical.Laws.{IsBehindKey, AvoidsKey, AvoidsKeys, AvoidKeys}
-use Rattle.archive_forms_values.proofs.ShapeLayout.Ascent.{end_after-grows}
-use Rattle.archive_forms_values.proofs.ShapeLayout.Unique.{one_value, one_list, by_plain, by_claimed}
-use Rattle.archive_forms_values.proofs.ShapeLayout.Framed.{stable_plain, stable_claimed}
-use Rattle.archive_forms_values.proofs.ShapeLayout.Places.{behind_fits, InOwn, Fits, AllFit, Separate, Laid, buckets_laid}
-use Rattle.archive_forms_values.proofs.ShapeLayout.Paths.{put_label}
-use Rattle.archive_forms_values.proofs.ShapeLayout.Stood.{stands_in_value, stands_all}
-use Rattle.archive_forms_values.proofs.ShapeLayout.Edits.{InAny, any_here, any_later, any_fits, any_apart, all_own, claimed_all, own_agrees, regions_agree, kept_plain, kept_claimed, plain_parts, claimed_parts, own_up, narrow, one_follows, LiesIn}
-use Rattle.archive_forms_values.proofs.ShapeCanonical.Kept.{plain_seen, claimed_seen, span_seen}
+use Rattle.archive_shape_layout.specs.Bytes.{window}
+use Rattle.archive_shape_layout.specs.Shape.{Shape, size_of}
+use Rattle.archive_shape_layout.specs.Shape.Pointee.{sized, str}
+use Rattle.archive_shape_layout.specs.Value.{Value, Values}
+use Rattle.archive_shape_layout.specs.Value.Value.{string}
+use Rattle.archive_shape_layout.specs.Value.Values.{no_values, more_values}
+use Rattle.archive_shape_layout.specs.Content.{Names, Part, Item, Span, Label, content_of, made, members, IsLegal, pointee_content, item_size, control_count}
+use Rattle.archive_shape_layout.specs.Content.Part.{at, behind, buckets}
+use Rattle.archive_shape_layout.specs.Content.Label.{second}
+use Rattle.archive_shape_layout.specs.Content.Content.{plain, claimed}
+use Rattle.archive_shape_layout.specs.Laws.{AgreesOn}
+use Rattle.archive_shape_layout.specs.Holds.{Region, region_of, Visit, OpenShared, Holds, HoldAll, Ascends, HasRoot, end_after}
+use Rattle.archive_shape_layout.specs.Holds.Holds.{holds_plain, holds_claimed}
+use Rattle.archive_shape_layout.specs.Holds.HoldAll.{holds_none, holds_more}
+use Rattle.archive_shape_layout.specs.Edit.{Spares}
+use Rattle.archive_shape_layout.specs.Path.{change_in, put_at, through, Stands, StandsIn}
+use Rattle.archive_shape_layout.specs.Path.Stands.{stands_here, stands_plain, stands_claimed}
+use Rattle.archive_shape_layout.specs.Path.StandsIn.{stands_first, stands_later}
+use Rattle.archive_shape_canonical.specs.Seen.{seen_bytes_of}
+use Rattle.archive_shape_canonical.specs.Laws.{IsBehindKey, AvoidsKey, AvoidsKeys, AvoidKeys}
+use Rattle.archive_shape_layout.proofs.Ascent.{end_after-grows}
+use Rattle.archive_shape_layout.proofs.Unique.{one_value, one_list, by_plain, by_claimed}
+use Rattle.archive_shape_layout.proofs.Framed.{stable_plain, stable_claimed}
+use Rattle.archive_shape_layout.proofs.Places.{behind_fits, InOwn, Fits, AllFit, Separate, Laid, buckets_laid}
+use Rattle.archive_shape_layout.proofs.Paths.{put_label}
+use Rattle.archive_shape_layout.proofs.Stood.{stands_in_value, stands_all}
+use Rattle.archive_shape_layout.proofs.Edits.{InAny, any_here, any_later, any_fits, any_apart, all_own, claimed_all, own_agrees, regions_agree, kept_plain, kept_claimed, plain_parts, claimed_parts, own_up, narrow, one_follows, LiesIn}
+use Rattle.archive_shape_canonical.proofs.Kept.{plain_seen, claimed_seen, span_seen}
 use Rattle.cabinet_documents.specs.Table.{item_keys}
 use Rattle.cabinet_documents.proofs.EntryNumbers.{numbers_first, same_numbers}
 use Rattle.cabinet_documents.proofs.TableSound.{IsTableSound}

@@ -3,19 +3,19 @@ use Rattle.std.proofs.Common.{◌≡◌, ℕ, suc, ◌+◌, ◌≤◌, ◌<◌, 
 use Rattle.std.specs.Prelude.{⊤}
 use Rattle.std.specs.List.{Contains}
 use Rattle.std.proofs.lemmas.Bool.{ne_eqb}
-use Rattle.archive_forms_values.specs.ShapeLayout.Bytes.{window, word_at, target_from}
-use Rattle.archive_forms_values.specs.ShapeLayout.Shape.{Shape}
-use Rattle.archive_forms_values.specs.ShapeLayout.Shape.Shape.{tree, table, index_map}
-use Rattle.archive_forms_values.specs.ShapeLayout.Shape.Pointee.{slice}
-use Rattle.archive_forms_values.specs.ShapeLayout.Value.{Value, Values, count_values}
-use Rattle.archive_forms_values.specs.ShapeLayout.Value.Values.{no_values, more_values}
-use Rattle.archive_forms_values.specs.ShapeLayout.Content.{Names, Part, Label, Content, Item, content_of, members, item, place, control_count, choose, following, shape_content, table_parts}
-use Rattle.archive_forms_values.specs.ShapeLayout.Content.Part.{at, behind, buckets}
-use Rattle.archive_forms_values.specs.ShapeLayout.Content.Label.{same, second, whole}
-use Rattle.archive_forms_values.specs.ShapeLayout.Content.Content.{illegal, plain}
+use Rattle.archive_shape_layout.specs.Bytes.{window, word_at, target_from}
+use Rattle.archive_shape_layout.specs.Shape.{Shape}
+use Rattle.archive_shape_layout.specs.Shape.Shape.{tree, table, index_map}
+use Rattle.archive_shape_layout.specs.Shape.Pointee.{slice}
+use Rattle.archive_shape_layout.specs.Value.{Value, Values, count_values}
+use Rattle.archive_shape_layout.specs.Value.Values.{no_values, more_values}
+use Rattle.archive_shape_layout.specs.Content.{Names, Part, Label, Content, Item, content_of, members, item, place, control_count, choose, following, shape_content, table_parts}
+use Rattle.archive_shape_layout.specs.Content.Part.{at, behind, buckets}
+use Rattle.archive_shape_layout.specs.Content.Label.{same, second, whole}
+use Rattle.archive_shape_layout.specs.Content.Content.{illegal, plain}
 use Rattle.archive_forms_values.specs.Tuples.{tuple2}
 use Rattle.archive_forms_values.proofs.Targets.{first_word}
-use Rattle.archive_forms_values.proofs.ShapeLayout.Windows.{word_within}
+use Rattle.archive_shape_layout.proofs.Windows.{word_within}
 use Rattle.cabinet_documents.specs.Table.{Slot, Entry, Table, Findable, entry_of, full_from, hashed_slots, numbered, hashed_at, kept_at, table_of, where_led, empty_table, item_keys}
 use Rattle.cabinet_documents.specs.Order.{ascend, is_same}
 use Rattle.cabinet_documents.specs.Walk.{Stop}

@@ -1,19 +1,19 @@
 -- From a hashed map to the node of one of its pairs: what holds there, and that it lies in the map.
 use Rattle.std.proofs.Common.{◌≡◌, ℕ, zero, suc, ◌+◌, ◌-◌, ◌*◌, nat_lt, cond, Bool, true, false, List, [], ◌∷◌, take, Some, refl, sym, ap, subst, ◌∙◌}
 use Rattle.std.specs.List.{slice_get}
-use Rattle.archive_forms_values.specs.ShapeLayout.Bytes.{window, word_at, target_from}
-use Rattle.archive_forms_values.specs.ShapeLayout.Value.{Value, Values}
-use Rattle.archive_forms_values.specs.ShapeLayout.Value.Value.{group}
-use Rattle.archive_forms_values.specs.ShapeLayout.Content.{Part, content_of, made, item, item_size, control_count}
-use Rattle.archive_forms_values.specs.ShapeLayout.Content.Part.{buckets}
-use Rattle.archive_forms_values.specs.ShapeLayout.Content.Label.{same, whole}
-use Rattle.archive_forms_values.specs.ShapeLayout.Content.Content.{plain, claimed}
-use Rattle.archive_forms_values.specs.ShapeLayout.Holds.{Region, Visit, OpenShared, Holds}
-use Rattle.archive_forms_values.specs.ShapeLayout.Path.{value_in}
-use Rattle.archive_forms_values.specs.ShapeLayout.Path.Stands.{stands_claimed}
-use Rattle.archive_forms_values.proofs.ShapeLayout.Edits.{not_plain}
-use Rattle.archive_forms_values.proofs.ShapeLayout.Places.{Laid, buckets_laid}
-use Rattle.archive_forms_values.proofs.ShapeLayout.Unique.{by_claimed}
+use Rattle.archive_shape_layout.specs.Bytes.{window, word_at, target_from}
+use Rattle.archive_shape_layout.specs.Value.{Value, Values}
+use Rattle.archive_shape_layout.specs.Value.Value.{group}
+use Rattle.archive_shape_layout.specs.Content.{Part, content_of, made, item, item_size, control_count}
+use Rattle.archive_shape_layout.specs.Content.Part.{buckets}
+use Rattle.archive_shape_layout.specs.Content.Label.{same, whole}
+use Rattle.archive_shape_layout.specs.Content.Content.{plain, claimed}
+use Rattle.archive_shape_layout.specs.Holds.{Region, Visit, OpenShared, Holds}
+use Rattle.archive_shape_layout.specs.Path.{value_in}
+use Rattle.archive_shape_layout.specs.Path.Stands.{stands_claimed}
+use Rattle.archive_shape_layout.proofs.Edits.{not_plain}
+use Rattle.archive_shape_layout.proofs.Places.{Laid, buckets_laid}
+use Rattle.archive_shape_layout.proofs.Unique.{by_claimed}
 use Rattle.cabinet_documents.specs.Node.{node_names, pair_shape}
 use Rattle.cabinet_documents.specs.Denotes.{pair_value}
 use Rattle.cabinet_documents.specs.Table.{full_from}

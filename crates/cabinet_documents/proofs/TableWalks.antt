@@ -2,20 +2,20 @@
 use Rattle.std.proofs.Common.{◌≡◌, ◌∙◌, ℕ, ◌+◌, ◌-◌, ◌*◌, Bool, true, false, cond, ◌==◌, ◌&&◌, nat_le, nat_lt, List, [], ◌∷◌, ◌++◌, take, Some, refl, sym, ap, subst, append-nil, append_assoc, eq-eqb}
 use Rattle.std.specs.List.{flat_map, count_by}
 use Rattle.std.proofs.lemmas.Bool.{ne_eqb}
-use Rattle.archive_btree_spelling.specs.BtreeLayout.Reading.{Place}
-use Rattle.archive_forms_values.specs.ShapeLayout.Bytes.{window, word_at, target_from, align_up}
-use Rattle.archive_forms_values.specs.ShapeLayout.Shape.{Shape, size_of, align_of}
-use Rattle.archive_forms_values.specs.ShapeLayout.Shape.Shape.{table}
+use Rattle.archive_btree_layout.specs.Reading.{Place}
+use Rattle.archive_shape_layout.specs.Bytes.{window, word_at, target_from, align_up}
+use Rattle.archive_shape_layout.specs.Shape.{Shape, size_of, align_of}
+use Rattle.archive_shape_layout.specs.Shape.Shape.{table}
 use Rattle.archive_forms_values.specs.Tuples.{tuple2}
-use Rattle.archive_forms_values.specs.ShapeLayout.Value.{Value, Values}
-use Rattle.archive_forms_values.specs.ShapeLayout.Value.Values.{no_values, more_values}
-use Rattle.archive_forms_values.specs.ShapeLayout.Content.{Names, content_of, choose, members, item, item_size, control_count, wraps, buckets_span, buckets_content, tagged_items, shape_content, fields}
-use Rattle.archive_forms_values.specs.ShapeLayout.Content.Part.{at, buckets}
-use Rattle.archive_forms_values.specs.ShapeLayout.Content.Label.{same, whole}
-use Rattle.archive_forms_values.specs.ShapeLayout.Content.Content.{illegal, plain, claimed}
+use Rattle.archive_shape_layout.specs.Value.{Value, Values}
+use Rattle.archive_shape_layout.specs.Value.Values.{no_values, more_values}
+use Rattle.archive_shape_layout.specs.Content.{Names, content_of, choose, members, item, item_size, control_count, wraps, buckets_span, buckets_content, tagged_items, shape_content, fields}
+use Rattle.archive_shape_layout.specs.Content.Part.{at, buckets}
+use Rattle.archive_shape_layout.specs.Content.Label.{same, whole}
+use Rattle.archive_shape_layout.specs.Content.Content.{illegal, plain, claimed}
 use Rattle.archive_forms_values.proofs.Chosen.{chosen, not_chosen}
 use Rattle.archive_forms_values.proofs.Pointed.{made_same, made_whole}
-use Rattle.archive_forms_values.proofs.FormsLaws.TextContent.{followed}
+use Rattle.archive_forms_laws.proofs.TextContent.{followed}
 use Rattle.cabinet_documents.specs.Walk.{Stop, Walks, WalkAll}
 use Rattle.cabinet_documents.specs.Table.{hashed_at, table_of}
 use Rattle.cabinet_documents.specs.Audit.{too_deep, unless, faults, hashed_faults}

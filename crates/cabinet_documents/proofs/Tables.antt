@@ -2,8 +2,8 @@
 use Rattle.std.proofs.Common.{◌≡◌, ℕ, zero, suc, ◌+◌, ◌-◌, ◌*◌, ◌<◌, List, [], ◌∷◌, length, take, map, refl, ap, arith}
 use Rattle.std.specs.List.{Contains}
 use Rattle.std.specs.Prelude.{slice_index_or}
-use Rattle.archive_forms_values.specs.ShapeLayout.Bytes.{window, word_at}
-use Rattle.archive_forms_values.specs.ShapeLayout.Content.{control_count}
+use Rattle.archive_shape_layout.specs.Bytes.{window, word_at}
+use Rattle.archive_shape_layout.specs.Content.{control_count}
 use Rattle.cabinet_documents.specs.Table.{Slot, Table, entry_of, full_from, hashed_slots, numbered, kept_at, kept_slot}
 
 -- the slots of items in full places

@@ -3,31 +3,31 @@ use Rattle.std.proofs.Common.{◌≡◌, ◌∙◌, ℕ, zero, suc, ◌+◌, ◌
 use Rattle.std.specs.List.{flat_map}
 use Rattle.std.proofs.lemmas.Bool.{le-leb, ne_eqb}
 use Rattle.std.proofs.lemmas.Grind.{flat_map-append}
-use Rattle.archive_btree_spelling.specs.BtreeLayout.Tree.{Tree, Branches, items, items_of}
-use Rattle.archive_btree_spelling.specs.BtreeLayout.Tree.Tree.{absent, leaf, inner}
-use Rattle.archive_btree_spelling.specs.BtreeLayout.Tree.Branches.{greater, lesser}
-use Rattle.archive_btree_spelling.specs.BtreeLayout.Reading.{Place, places, HasNode, HasBranches, HasChild}
-use Rattle.archive_btree_spelling.specs.BtreeLayout.Reading.HasNode.{has_leaf, has_inner}
-use Rattle.archive_btree_spelling.specs.BtreeLayout.Reading.HasBranches.{has_greater, has_lesser}
-use Rattle.archive_btree_spelling.specs.BtreeLayout.Reading.HasChild.{no_child, a_child}
-use Rattle.archive_btree_spelling.proofs.BtreeLayout.Contents.{kind_of}
-use Rattle.archive_forms_values.specs.ShapeLayout.Bytes.{window, word_at, target_from}
-use Rattle.archive_forms_values.specs.ShapeLayout.Shape.{Shape, size_of}
-use Rattle.archive_forms_values.specs.ShapeLayout.Shape.Shape.{text, tree}
-use Rattle.archive_forms_values.specs.ShapeLayout.Shape.Pointee.{str}
-use Rattle.archive_forms_values.specs.ShapeLayout.Value.{Value, Values, append_values, count_values}
-use Rattle.archive_forms_values.specs.ShapeLayout.Value.Value.{group}
-use Rattle.archive_forms_values.specs.ShapeLayout.Value.Values.{no_values, more_values}
-use Rattle.archive_forms_values.specs.ShapeLayout.Content.{Names, Part, content_of, choose, following, made, members, weave, first_values, other_values, shape_content, pointee_content, text_content, text_length, begins_inline, before_ff, node_content, child_content, entries, children, keys_offset, values_offset, links_offset, link_node_size, node_span, words_of}
-use Rattle.archive_forms_values.specs.ShapeLayout.Content.Part.{at, behind, node, child, entry}
-use Rattle.archive_forms_values.specs.ShapeLayout.Content.Label.{written, same, whole, woven, total}
-use Rattle.archive_forms_values.specs.ShapeLayout.Content.Content.{illegal, plain, claimed}
+use Rattle.archive_btree_layout.specs.Tree.{Tree, Branches, items, items_of}
+use Rattle.archive_btree_layout.specs.Tree.Tree.{absent, leaf, inner}
+use Rattle.archive_btree_layout.specs.Tree.Branches.{greater, lesser}
+use Rattle.archive_btree_layout.specs.Reading.{Place, places, HasNode, HasBranches, HasChild}
+use Rattle.archive_btree_layout.specs.Reading.HasNode.{has_leaf, has_inner}
+use Rattle.archive_btree_layout.specs.Reading.HasBranches.{has_greater, has_lesser}
+use Rattle.archive_btree_layout.specs.Reading.HasChild.{no_child, a_child}
+use Rattle.archive_btree_layout.proofs.Contents.{kind_of}
+use Rattle.archive_shape_layout.specs.Bytes.{window, word_at, target_from}
+use Rattle.archive_shape_layout.specs.Shape.{Shape, size_of}
+use Rattle.archive_shape_layout.specs.Shape.Shape.{text, tree}
+use Rattle.archive_shape_layout.specs.Shape.Pointee.{str}
+use Rattle.archive_shape_layout.specs.Value.{Value, Values, append_values, count_values}
+use Rattle.archive_shape_layout.specs.Value.Value.{group}
+use Rattle.archive_shape_layout.specs.Value.Values.{no_values, more_values}
+use Rattle.archive_shape_layout.specs.Content.{Names, Part, content_of, choose, following, made, members, weave, first_values, other_values, shape_content, pointee_content, text_content, text_length, begins_inline, before_ff, node_content, child_content, entries, children, keys_offset, values_offset, links_offset, link_node_size, node_span, words_of}
+use Rattle.archive_shape_layout.specs.Content.Part.{at, behind, node, child, entry}
+use Rattle.archive_shape_layout.specs.Content.Label.{written, same, whole, woven, total}
+use Rattle.archive_shape_layout.specs.Content.Content.{illegal, plain, claimed}
 use Rattle.archive_forms_values.proofs.Chosen.{chosen, not_chosen}
 use Rattle.archive_forms_values.proofs.Pointed.{made_same, made_whole}
 use Rattle.archive_forms_values.proofs.Targets.{first_word}
-use Rattle.archive_forms_values.proofs.FormsLaws.TextContent.{followed}
-use Rattle.archive_forms_values.proofs.ShapeLayout.Framed.{links_fit}
-use Rattle.archive_forms_values.proofs.ShapeLayout.Windows.{word_within, word_of}
+use Rattle.archive_forms_laws.proofs.TextContent.{followed}
+use Rattle.archive_shape_layout.proofs.Framed.{links_fit}
+use Rattle.archive_shape_layout.proofs.Windows.{word_within, word_of}
 use Rattle.cabinet_documents.specs.Walk.{Stop, Walks, WalkAll, in_turn, depth_in}
 use Rattle.cabinet_documents.specs.Order.{ascend}
 use Rattle.cabinet_documents.specs.Table.{item_keys}

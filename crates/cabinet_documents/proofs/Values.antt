@@ -2,21 +2,21 @@
 use Rattle.std.proofs.Common.{◌≡◌, ℕ, zero, suc, ◌%◌, ◌/◌, ◌==◌, cond, ◌≤◌, List, [], ◌∷◌, length, map as list_map, Option, Some, None, refl, sym, ap, ap₂, subst, ◌∙◌, arith}
 use Rattle.std.specs.Prelude.{IsTrue}
 use Rattle.std.proofs.Math.Nat.{le-max_left, le-max_right}
-use Rattle.archive_forms_values.specs.ShapeLayout.Shape.Pointee.{sized, str}
-use Rattle.archive_forms_values.specs.ShapeLayout.Value.{Value, Values, count_values}
-use Rattle.archive_forms_values.specs.ShapeLayout.Value.Value.{integer, boolean, string, group, chosen, counted}
-use Rattle.archive_forms_values.specs.ShapeLayout.Value.Values.{no_values, more_values}
-use Rattle.archive_forms_values.specs.ShapeCanonical.FirstFit.{ascending, first_fit, keys_in, map_capacity, placed_keys}
-use Rattle.archive_forms_values.specs.ShapeCanonical.Hash.{text_hash}
-use Rattle.archive_forms_values.specs.ShapeCanonical.Sharing.{erased, all_erased}
-use Rattle.archive_forms_values.specs.FormsLaws.State.{Keys, SharedValue}
-use Rattle.archive_forms_values.specs.FormsLaws.Spelling.{Spelling}
-use Rattle.archive_forms_values.specs.FormsLaws.Regions.{plain_values, all_suit}
-use Rattle.archive_forms_values.specs.FormsLaws.Levels.{levels_spelling}
+use Rattle.archive_shape_layout.specs.Shape.Pointee.{sized, str}
+use Rattle.archive_shape_layout.specs.Value.{Value, Values, count_values}
+use Rattle.archive_shape_layout.specs.Value.Value.{integer, boolean, string, group, chosen, counted}
+use Rattle.archive_shape_layout.specs.Value.Values.{no_values, more_values}
+use Rattle.archive_shape_canonical.specs.FirstFit.{ascending, first_fit, keys_in, map_capacity, placed_keys}
+use Rattle.archive_shape_canonical.specs.Hash.{text_hash}
+use Rattle.archive_shape_canonical.specs.Sharing.{erased, all_erased}
+use Rattle.archive_forms_laws.specs.State.{Keys, SharedValue}
+use Rattle.archive_forms_laws.specs.Spelling.{Spelling}
+use Rattle.archive_forms_laws.specs.Regions.{plain_values, all_suit}
+use Rattle.archive_forms_laws.specs.Levels.{levels_spelling}
 use Rattle.archive_hash_writing.specs.Fitted.{capacity_of, places_of, by_place}
 use Rattle.archive_hash_writing.proofs.FirstFitted.{filled_by, all_suit_placed}
-use Rattle.archive_index_spelling.specs.Maps.{IsKeptBy}
-use Rattle.archive_index_spelling.proofs.Kept.{texts_kept}
+use Rattle.archive_hash_writing.specs.IndexMaps.{IsKeptBy}
+use Rattle.archive_hash_writing.proofs.IndexKept.{texts_kept}
 use Rattle.cabinet_text_grammar.specs.Keys.{MapKind, ordered, hashed, kept}
 use Rattle.cabinet_text_grammar.specs.TextKey.{text_key, text_of_key}
 use Rattle.cabinet_text_grammar.proofs.KeyLemmas.{key_has_text_law}

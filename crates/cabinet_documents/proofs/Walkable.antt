@@ -1,16 +1,16 @@
 -- What holds has a walk, of whose steps all is known that is known of the steps of what holds.
 use Rattle.std.proofs.Common.{◌≡◌, ℕ, List, [], ◌∷◌, Some, refl, sym, ap, subst, cond, ◌==◌, true, false, Bool, eqb-true}
 use Rattle.std.specs.Prelude.{⊤}
-use Rattle.archive_forms_values.specs.ShapeLayout.Shape.{Shape, Pointee}
-use Rattle.archive_forms_values.specs.ShapeLayout.Shape.Pointee.{sized}
-use Rattle.archive_forms_values.specs.ShapeLayout.Value.{Value, Values}
-use Rattle.archive_forms_values.specs.ShapeLayout.Value.Values.{no_values, more_values}
-use Rattle.archive_forms_values.specs.ShapeLayout.Content.{Names, Part, Label, Content, content_of, made}
-use Rattle.archive_forms_values.specs.ShapeLayout.Content.Part.{behind}
-use Rattle.archive_forms_values.specs.ShapeLayout.Content.Content.{illegal, plain, claimed, counting}
-use Rattle.archive_forms_values.specs.ShapeLayout.Holds.{Region, Visit, OpenShared, visited, Holds, HoldAll, HasRoot}
-use Rattle.archive_forms_values.specs.ShapeLayout.Holds.Holds.{holds_plain, holds_claimed, holds_first, holds_later, holds_back}
-use Rattle.archive_forms_values.specs.ShapeLayout.Holds.HoldAll.{holds_none, holds_more}
+use Rattle.archive_shape_layout.specs.Shape.{Shape, Pointee}
+use Rattle.archive_shape_layout.specs.Shape.Pointee.{sized}
+use Rattle.archive_shape_layout.specs.Value.{Value, Values}
+use Rattle.archive_shape_layout.specs.Value.Values.{no_values, more_values}
+use Rattle.archive_shape_layout.specs.Content.{Names, Part, Label, Content, content_of, made}
+use Rattle.archive_shape_layout.specs.Content.Part.{behind}
+use Rattle.archive_shape_layout.specs.Content.Content.{illegal, plain, claimed, counting}
+use Rattle.archive_shape_layout.specs.Holds.{Region, Visit, OpenShared, visited, Holds, HoldAll, HasRoot}
+use Rattle.archive_shape_layout.specs.Holds.Holds.{holds_plain, holds_claimed, holds_first, holds_later, holds_back}
+use Rattle.archive_shape_layout.specs.Holds.HoldAll.{holds_none, holds_more}
 use Rattle.cabinet_documents.specs.Walk.{Stop, Walks, WalkAll, parts_of, value_of, joined, depth_in}
 use Rattle.cabinet_documents.specs.Walk.Walks.{walks}
 use Rattle.cabinet_documents.specs.Walk.WalkAll.{walk_none, walk_more}

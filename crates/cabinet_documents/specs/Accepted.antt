@@ -1,8 +1,8 @@
 -- When bytes are the archive of a document.
 use Rattle.std.specs.Prelude.{List, ℕ, length}
 use Rattle.std.specs.List.{Contains}
-use Rattle.archive_forms_values.specs.ShapeLayout.Value.{Value}
-use Rattle.archive_forms_values.specs.ShapeLayout.Holds.{Region, Visit, HasRoot, root_position}
+use Rattle.archive_shape_layout.specs.Value.{Value}
+use Rattle.archive_shape_layout.specs.Holds.{Region, Visit, HasRoot, root_position}
 use Rattle.cabinet_documents.specs.Node.{node_shape, node_names}
 use Rattle.cabinet_text_grammar.specs.Tree.{Tree}
 use Rattle.cabinet_text_grammar.specs.Wholes.{IsDocument}

@@ -1,15 +1,15 @@
 -- The faults of bytes that hold a node, in the order in which opening reports them.
 use Rattle.std.specs.Prelude.{◌≡◌, ℕ, ◌<◌, Bool, true, false, cond, ◌==◌, nat_lt, List, [], ◌∷◌, ◌++◌, length, slice_index, Option, Some, None, ⊤}
 use Rattle.std.specs.List.{flat_map}
-use Rattle.archive_forms_values.specs.ShapeLayout.Shape.Shape.{tree, table, index_map}
-use Rattle.archive_forms_values.specs.ShapeLayout.Shape.Pointee.{sized}
-use Rattle.archive_forms_values.specs.ShapeLayout.Value.{Value}
-use Rattle.archive_forms_values.specs.ShapeLayout.Content.{Part, members}
-use Rattle.archive_forms_values.specs.ShapeLayout.Content.Part.{at, behind}
-use Rattle.archive_forms_values.specs.ShapeLayout.Holds.{Region, Visit, HasRoot, root_position}
-use Rattle.archive_forms_values.specs.ArchiveShape.Range.{Range}
-use Rattle.archive_forms_values.specs.ArchiveShape.PartFault.{PartFault}
-use Rattle.archive_forms_values.specs.ShapeWriting.declared.error.Error.{Error}
+use Rattle.archive_shape_layout.specs.Shape.Shape.{tree, table, index_map}
+use Rattle.archive_shape_layout.specs.Shape.Pointee.{sized}
+use Rattle.archive_shape_layout.specs.Value.{Value}
+use Rattle.archive_shape_layout.specs.Content.{Part, members}
+use Rattle.archive_shape_layout.specs.Content.Part.{at, behind}
+use Rattle.archive_shape_layout.specs.Holds.{Region, Visit, HasRoot, root_position}
+use Rattle.archive_shape.specs.Range.{Range}
+use Rattle.archive_shape.specs.PartFault.{PartFault}
+use Rattle.archive_shape_layout.specs.declared.error.Error.{Error}
 use Rattle.cabinet_documents.specs.Node.{node_shape, node_names}
 use Rattle.cabinet_documents.specs.Order.{ascend}
 use Rattle.cabinet_documents.specs.Walk.{Stop, Walks, is_container}

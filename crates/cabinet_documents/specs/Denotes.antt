@@ -1,8 +1,8 @@
 -- The document that a node's value denotes.
 use Rattle.std.specs.Prelude.{◌≡◌, ℕ, ℤ, Bool, List}
-use Rattle.archive_forms_values.specs.ShapeLayout.Value.{Value, Values}
-use Rattle.archive_forms_values.specs.ShapeLayout.Value.Value.{integer, boolean, string, group, chosen, counted}
-use Rattle.archive_forms_values.specs.ShapeLayout.Value.Values.{no_values, more_values}
+use Rattle.archive_shape_layout.specs.Value.{Value, Values}
+use Rattle.archive_shape_layout.specs.Value.Value.{integer, boolean, string, group, chosen, counted}
+use Rattle.archive_shape_layout.specs.Value.Values.{no_values, more_values}
 use Rattle.cabinet_text_grammar.specs.Tree.{truth, number, text}
 use Rattle.cabinet_text_grammar.specs.Keys.{ordered, hashed, kept}
 use Rattle.cabinet_text_grammar.specs.Tree.{Tree, leaf, shared, nothing, just, list, Trees, no_trees, more_trees, Pairs, no_pairs, more_pairs, map, whole}

@@ -1,10 +1,10 @@
 -- The values of documents in which the pairs of each hashed map are in the order that first fit gives them.
 use Rattle.std.specs.Prelude.{◌≡◌, ℕ, ◌≤◌, List}
-use Rattle.archive_forms_values.specs.ShapeLayout.Value.{Value, Values, count_values}
-use Rattle.archive_forms_values.specs.ShapeLayout.Value.Value.{group, chosen, counted}
-use Rattle.archive_forms_values.specs.ShapeLayout.Value.Values.{no_values, more_values}
-use Rattle.archive_forms_values.specs.ShapeCanonical.FirstFit.{ascending, keys_in, map_capacity, placed_keys}
-use Rattle.archive_forms_values.specs.ShapeCanonical.Hash.{text_hash}
+use Rattle.archive_shape_layout.specs.Value.{Value, Values, count_values}
+use Rattle.archive_shape_layout.specs.Value.Value.{group, chosen, counted}
+use Rattle.archive_shape_layout.specs.Value.Values.{no_values, more_values}
+use Rattle.archive_shape_canonical.specs.FirstFit.{ascending, keys_in, map_capacity, placed_keys}
+use Rattle.archive_shape_canonical.specs.Hash.{text_hash}
 use Rattle.cabinet_documents.specs.Denotes.{tagged_value, pair_value}
 
 -- the keys of pairs, by ascending place, where first fit takes them in ascending order

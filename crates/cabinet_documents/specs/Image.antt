@@ -1,10 +1,10 @@
 -- When bytes are the one archive that saving a document writes.
 use Rattle.std.specs.Prelude.{ℕ, ◌<◌, ◌^◌, List, length}
 use Rattle.std.specs.List.{Contains}
-use Rattle.archive_forms_values.specs.ShapeLayout.Holds.{Region, root_position}
-use Rattle.archive_forms_values.specs.ShapeCanonical.Canonical.{CanonicalArchive}
-use Rattle.archive_forms_values.specs.ShapeCanonical.FirstFit.{first_fit}
-use Rattle.archive_forms_values.specs.ShapeCanonical.Hash.{text_hash}
+use Rattle.archive_shape_layout.specs.Holds.{Region, root_position}
+use Rattle.archive_shape_canonical.specs.Canonical.{CanonicalArchive}
+use Rattle.archive_shape_canonical.specs.FirstFit.{first_fit}
+use Rattle.archive_shape_canonical.specs.Hash.{text_hash}
 use Rattle.cabinet_documents.specs.Node.{node_shape, node_names}
 use Rattle.cabinet_text_grammar.specs.Tree.{Tree}
 use Rattle.cabinet_documents.specs.Accepted.{Accepted}

@@ -1,17 +1,17 @@
 -- Laws of the archives of documents, as statements.
 use Rattle.std.specs.Prelude.{◌≡◌, ◌≢◌, ℕ, ◌<◌, ◌^◌, false, pos, List, [], ◌∷◌, ◌++◌, length, Some, ⊤}
-use Rattle.archive_forms_values.specs.ShapeLayout.Value.{Value}
-use Rattle.archive_forms_values.specs.ShapeLayout.Content.{Names, Part}
-use Rattle.archive_forms_values.specs.ShapeLayout.Shape.{Shape}
-use Rattle.archive_forms_values.specs.ShapeLayout.Shape.Pointee.{sized}
-use Rattle.archive_forms_values.specs.ShapeLayout.Value.{Values}
-use Rattle.archive_forms_values.specs.ShapeLayout.Content.Part.{behind}
-use Rattle.archive_forms_values.specs.ShapeLayout.Holds.{Region, Visit, OpenShared, Holds, HoldAll, HasRoot, root_position}
-use Rattle.archive_forms_values.specs.ShapeLayout.Holds.Holds.{holds_plain, holds_claimed, holds_first, holds_later, holds_back}
-use Rattle.archive_forms_values.specs.ShapeLayout.Holds.HoldAll.{holds_none, holds_more}
-use Rattle.archive_forms_values.specs.ShapeLayout.Edit.{Apart}
-use Rattle.archive_forms_values.specs.ShapeCanonical.Canonical.{AreBytes}
-use Rattle.archive_forms_values.specs.ArchiveShape.Bytes.{overwrite}
+use Rattle.archive_shape_layout.specs.Value.{Value}
+use Rattle.archive_shape_layout.specs.Content.{Names, Part}
+use Rattle.archive_shape_layout.specs.Shape.{Shape}
+use Rattle.archive_shape_layout.specs.Shape.Pointee.{sized}
+use Rattle.archive_shape_layout.specs.Value.{Values}
+use Rattle.archive_shape_layout.specs.Content.Part.{behind}
+use Rattle.archive_shape_layout.specs.Holds.{Region, Visit, OpenShared, Holds, HoldAll, HasRoot, root_position}
+use Rattle.archive_shape_layout.specs.Holds.Holds.{holds_plain, holds_claimed, holds_first, holds_later, holds_back}
+use Rattle.archive_shape_layout.specs.Holds.HoldAll.{holds_none, holds_more}
+use Rattle.archive_shape_layout.specs.Edit.{Apart}
+use Rattle.archive_shape_canonical.specs.Canonical.{AreBytes}
+use Rattle.archive_shape.specs.Bytes.{overwrite}
 use Rattle.cabinet_text_grammar.specs.Tree.{Leaf, truth, number, text, IsLeaf}
 use Rattle.cabinet_text_grammar.specs.Path.{Step}
 use Rattle.cabinet_documents.specs.Node.{node_names, node_shape, own_bytes}
@@ -25,8 +25,8 @@ use Rattle.cabinet_documents.specs.Audit.{Unsound, AuditFault, faults, first_of,
 use Rattle.cabinet_documents.specs.Accepted.{Accepted}
 use Rattle.cabinet_documents.specs.OwnBytes.{OwnBytes, LeadsTo}
 use Rattle.cabinet_documents.specs.Denotes.{Denotes}
-use Rattle.archive_forms_values.specs.ShapeLayout.Path.{put_at}
-use Rattle.archive_forms_values.specs.ShapeLayout.Value.Value.{boolean, integer, string}
+use Rattle.archive_shape_layout.specs.Path.{put_at}
+use Rattle.archive_shape_layout.specs.Value.Value.{boolean, integer, string}
 use Rattle.cabinet_documents.specs.Image.{Image}
 
 -- two walks of a part have the same value and the same stops

@@ -1,5 +1,4 @@
 pub mod Accepted
-pub mod ArchiveShape
 pub mod Audit
 pub mod Denotes
 pub mod Done
@@ -9,11 +8,8 @@ pub mod Laws
 pub mod Node
 pub mod Order
 pub mod OwnBytes
-pub mod ShapeCanonical
-pub mod ShapeLayout
 pub mod SharedKeys
 pub mod Spelling
 pub mod SpellingLaws
 pub mod Table
-pub mod TextGrammar
 pub mod Walk

@@ -1,12 +1,12 @@
 -- The layout of a document's node: 24 bytes, aligned to 8; a tag byte, then the payload of the tag at its alignment.
 use Rattle.std.specs.Prelude.{◌≡◌, Some, true, false, List, [], ◌∷◌, ℕ, Bool}
 use Rattle.std.specs.Int.{w64, to_le_bytes, cast_unsigned}
-use Rattle.archive_forms_values.specs.ShapeLayout.Shape.{Shape, Shapes}
-use Rattle.archive_forms_values.specs.ShapeLayout.Shape.Alignment.{eight}
-use Rattle.archive_forms_values.specs.ShapeLayout.Shape.Shape.{number, truth, text, option, choice, box, vector, shared, tree, table, index_map, named, tuple}
-use Rattle.archive_forms_values.specs.ShapeLayout.Shape.Shapes.{no_shapes, more_shapes}
-use Rattle.archive_forms_values.specs.ShapeLayout.Shape.Pointee.{sized, str}
-use Rattle.archive_forms_values.specs.ShapeLayout.Content.{Names, shape_named}
+use Rattle.archive_shape_layout.specs.Shape.{Shape, Shapes}
+use Rattle.archive_shape_layout.specs.Shape.Alignment.{eight}
+use Rattle.archive_shape_layout.specs.Shape.Shape.{number, truth, text, option, choice, box, vector, shared, tree, table, index_map, named, tuple}
+use Rattle.archive_shape_layout.specs.Shape.Shapes.{no_shapes, more_shapes}
+use Rattle.archive_shape_layout.specs.Shape.Pointee.{sized, str}
+use Rattle.archive_shape_layout.specs.Content.{Names, shape_named}
 use Rattle.cabinet_text_grammar.specs.Tree as document
 
 -- a node contains nodes, so its shape is recursive and has a name, 0

@@ -1,15 +1,15 @@
 -- The own bytes of a leaf: those that an edit may write.
 use Rattle.std.specs.Prelude.{◌≡◌, ℕ, true, List, [], ◌∷◌, ◌++◌, length, Some, ◌⊎◌}
 use Rattle.std.specs.Int.{w64}
-use Rattle.archive_forms_values.specs.ShapeLayout.Shape.Shape.{truth, number, text}
-use Rattle.archive_forms_values.specs.ShapeLayout.Shape.Pointee.{str}
-use Rattle.archive_forms_values.specs.ShapeLayout.Value.{Value, Values}
-use Rattle.archive_forms_values.specs.ShapeLayout.Value.Value.{group}
-use Rattle.archive_forms_values.specs.ShapeLayout.Content.{Part, content_of}
-use Rattle.archive_forms_values.specs.ShapeLayout.Content.Label.{written}
-use Rattle.archive_forms_values.specs.ShapeLayout.Content.Part.{at, behind}
-use Rattle.archive_forms_values.specs.ShapeLayout.Content.Content.{plain}
-use Rattle.archive_forms_values.specs.ShapeLayout.Path.{Stands, value_in}
+use Rattle.archive_shape_layout.specs.Shape.Shape.{truth, number, text}
+use Rattle.archive_shape_layout.specs.Shape.Pointee.{str}
+use Rattle.archive_shape_layout.specs.Value.{Value, Values}
+use Rattle.archive_shape_layout.specs.Value.Value.{group}
+use Rattle.archive_shape_layout.specs.Content.{Part, content_of}
+use Rattle.archive_shape_layout.specs.Content.Label.{written}
+use Rattle.archive_shape_layout.specs.Content.Part.{at, behind}
+use Rattle.archive_shape_layout.specs.Content.Content.{plain}
+use Rattle.archive_shape_layout.specs.Path.{Stands, value_in}
 use Rattle.cabinet_text_grammar.specs.Path.{Step, key, place, inside}
 use Rattle.cabinet_documents.specs.Node.{node_names}
 use Rattle.cabinet_documents.specs.Denotes.{tagged_value, pair_value}

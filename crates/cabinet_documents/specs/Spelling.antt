@@ -1,24 +1,24 @@
 -- How documents are archived, by their kinds.
 use Rattle.std.specs.Prelude.{◌≡◌, ℕ, ℤ, Bool, true, false, List, [], ◌∷◌, Option, Some, None, ⊤}
 use Rattle.std.specs.Int.{w64, to_le_bytes, cast_unsigned}
-use Rattle.archive_forms_values.specs.ShapeLayout.Bytes.{align_up}
-use Rattle.archive_forms_values.specs.ShapeLayout.Shape.{Shape, size_of, align_of}
-use Rattle.archive_forms_values.specs.ShapeLayout.Shape.Shape.{number, truth, text, option, choice, box, vector, tree, table, index_map, shared as shared_shape}
-use Rattle.archive_forms_values.specs.ShapeLayout.Shape.Pointee.{sized, str}
-use Rattle.archive_forms_values.specs.ShapeLayout.Value.{Value}
-use Rattle.archive_forms_values.specs.ShapeLayout.Value.Value.{integer, boolean, group}
-use Rattle.archive_forms_values.specs.ShapeLayout.Value.Values.{no_values}
-use Rattle.archive_forms_values.specs.ShapeLayout.Numbers.{truth_bytes}
-use Rattle.archive_forms_values.specs.ShapeCanonical.Hash.{text_hash}
-use Rattle.archive_forms_values.specs.ShapeWriting.declared.error.Error.TheVariants.{InvalidTag}
-use Rattle.archive_forms_values.specs.FormsLaws.Spelling.{Spelling}
-use Rattle.archive_forms_values.specs.FormsLaws.Forms.{leaf_spelling, seen_as, kept_as}
-use Rattle.archive_forms_values.specs.FormsLaws.Pointers.{box_spelling, slice_spelling}
-use Rattle.archive_forms_values.specs.FormsLaws.Options.{option_spelling}
-use Rattle.archive_forms_values.specs.FormsLaws.Payloads.{payload_spelling}
-use Rattle.archive_forms_values.specs.FormsLaws.Fields.{tuple2_spelling}
-use Rattle.archive_forms_values.specs.FormsLaws.Shared.{shared_text_spelling, shared_value_spelling}
-use Rattle.archive_forms_values.specs.FormsLaws.Levels.{self_spelling}
+use Rattle.archive_shape_layout.specs.Bytes.{align_up}
+use Rattle.archive_shape_layout.specs.Shape.{Shape, size_of, align_of}
+use Rattle.archive_shape_layout.specs.Shape.Shape.{number, truth, text, option, choice, box, vector, tree, table, index_map, shared as shared_shape}
+use Rattle.archive_shape_layout.specs.Shape.Pointee.{sized, str}
+use Rattle.archive_shape_layout.specs.Value.{Value}
+use Rattle.archive_shape_layout.specs.Value.Value.{integer, boolean, group}
+use Rattle.archive_shape_layout.specs.Value.Values.{no_values}
+use Rattle.archive_shape_layout.specs.Numbers.{truth_bytes}
+use Rattle.archive_shape_canonical.specs.Hash.{text_hash}
+use Rattle.archive_shape_layout.specs.declared.error.Error.TheVariants.{InvalidTag}
+use Rattle.archive_forms_laws.specs.Spelling.{Spelling}
+use Rattle.archive_forms_laws.specs.Forms.{leaf_spelling, seen_as, kept_as}
+use Rattle.archive_forms_laws.specs.Pointers.{box_spelling, slice_spelling}
+use Rattle.archive_forms_laws.specs.Options.{option_spelling}
+use Rattle.archive_forms_laws.specs.Payloads.{payload_spelling}
+use Rattle.archive_forms_laws.specs.Fields.{tuple2_spelling}
+use Rattle.archive_forms_laws.specs.Shared.{shared_text_spelling, shared_value_spelling}
+use Rattle.archive_forms_laws.specs.Levels.{self_spelling}
 use Rattle.archive_forms_values.specs.declared.reading.resolving.BoxResolver.{BoxResolver}
 use Rattle.archive_forms_values.specs.declared.reading.resolving.VecResolver.{VecResolver}
 use Rattle.archive_forms_values.specs.declared.text.resolving.StringResolver.{StringResolver}
@@ -27,8 +27,8 @@ use Rattle.archive_btree_spelling.specs.Maps.{btree_spelling}
 use Rattle.archive_btree_maps.specs.declared.map.resolving.BTreeMapResolver.{BTreeMapResolver}
 use Rattle.archive_hash_maps.specs.declared.map.resolving.HashTableResolver.{HashTableResolver}
 use Rattle.archive_hash_writing.specs.Tables.{table_spelling}
-use Rattle.archive_index_spelling.specs.Resolvers.{pairs_spelling}
-use Rattle.archive_index_spelling.specs.declared.resolver.IndexMapResolver.{IndexMapResolver}
+use Rattle.archive_hash_writing.specs.IndexResolvers.{pairs_spelling}
+use Rattle.archive_hash_writing.specs.declared.index.resolver.IndexMapResolver.{IndexMapResolver}
 use Rattle.cabinet_text_grammar.specs.Keys.{ordered, hashed, kept}
 use Rattle.cabinet_text_grammar.specs.Tree as document
 use Rattle.cabinet_text_grammar.specs.Tree.{Tree, Trees, Pairs, leaf, shared, nothing, just, list, map, whole, no_trees, more_trees, no_pairs, more_pairs, depth}
@@ -37,7 +37,7 @@ use Rattle.cabinet_documents.specs.Node.{node_shape, pair_shape, whole_shape, pa
 use Rattle.cabinet_documents.specs.SharedKeys.{key_of_text, key_of_whole}
 use Rattle.cabinet_documents.specs.declared.spelling.resolver.NodeResolver.{NodeResolver}
 use Rattle.cabinet_documents.specs.declared.spelling.resolver.NodeResolver.TheVariants as resolver
-use Rattle.archive_forms_rc.specs.FormsWriting.Owned.{str_spelling}
+use Rattle.archive_forms_writing.specs.Owned.{str_spelling}
 
 -- ---- payloads
 

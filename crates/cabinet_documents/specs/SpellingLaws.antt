@@ -1,17 +1,17 @@
 -- Laws of the spelling of documents, as statements.
 use Rattle.std.specs.Prelude.{◌≡◌, ◌↔◌, pos, List, ℕ, [], ◌∷◌, Result}
-use Rattle.archive_forms_values.specs.ShapeLayout.Value.{Value}
-use Rattle.archive_forms_values.specs.ShapeCanonical.FirstFit.{first_fit}
-use Rattle.archive_forms_values.specs.ShapeCanonical.Hash.{text_hash}
-use Rattle.archive_forms_values.specs.ShapeCanonical.Limits.{PastLimits}
-use Rattle.archive_forms_values.specs.ShapeCanonical.Settled.{Fit}
-use Rattle.archive_forms_values.specs.ShapeCanonical.Sharing.{erased}
-use Rattle.archive_forms_values.specs.ShapeWriting.Writing.{WriterMembers}
-use Rattle.archive_forms_values.specs.ShapeWriting.declared.error.Error.{Error}
-use Rattle.archive_forms_values.specs.FormsLaws.State.{initial}
-use Rattle.archive_forms_values.specs.FormsLaws.Spells.{Spells}
-use Rattle.archive_forms_values.specs.FormsLaws.Serializing.{Serializes}
-use Rattle.archive_forms_values.specs.FormsLaws.Regions.{region_fits, region_piece, region_refused}
+use Rattle.archive_shape_layout.specs.Value.{Value}
+use Rattle.archive_shape_canonical.specs.FirstFit.{first_fit}
+use Rattle.archive_shape_canonical.specs.Hash.{text_hash}
+use Rattle.archive_shape_canonical.specs.Limits.{PastLimits}
+use Rattle.archive_shape_canonical.specs.Settled.{Fit}
+use Rattle.archive_shape_canonical.specs.Sharing.{erased}
+use Rattle.archive_shape_layout.specs.Writing.{WriterMembers}
+use Rattle.archive_shape_layout.specs.declared.error.Error.{Error}
+use Rattle.archive_forms_laws.specs.State.{initial}
+use Rattle.archive_forms_laws.specs.Spells.{Spells}
+use Rattle.archive_forms_laws.specs.Serializing.{Serializes}
+use Rattle.archive_forms_laws.specs.Regions.{region_fits, region_piece, region_refused}
 use Rattle.cabinet_text_grammar.specs.Tree.{Tree, leaf, number, shared, list, whole, no_trees, more_trees}
 use Rattle.cabinet_text_grammar.specs.Wholes.{wholes_of, IsDocument}
 use Rattle.cabinet_documents.specs.Node.{node_shape, node_names, KnowsNode}

@@ -1,14 +1,14 @@
 -- The table of a hashed or a kept map: the places of its keys, and when each key is found.
 use Rattle.std.specs.Prelude.{◌≡◌, ℕ, ◌+◌, ◌-◌, ◌*◌, Bool, true, false, cond, ◌&&◌, ◌==◌, nat_lt, List, [], ◌∷◌, take, map, slice_index, slice_index_or, Option, Some, None}
 use Rattle.std.specs.List.{find, Contains}
-use Rattle.archive_forms_values.specs.ShapeLayout.Bytes.{window, word_at, target_from}
-use Rattle.archive_forms_values.specs.ShapeLayout.Value.{Value, Values}
-use Rattle.archive_forms_values.specs.ShapeLayout.Value.Value.{string, group}
-use Rattle.archive_forms_values.specs.ShapeLayout.Value.Values.{no_values, more_values}
-use Rattle.archive_forms_values.specs.ShapeLayout.Content.{members, control_count}
-use Rattle.archive_forms_values.specs.ShapeCanonical.FirstFit.{hash_tag}
-use Rattle.archive_forms_values.specs.ShapeCanonical.Hash.{text_hash}
-use Rattle.archive_forms_values.specs.ShapeCanonical.Reach.{reach, Reaches}
+use Rattle.archive_shape_layout.specs.Bytes.{window, word_at, target_from}
+use Rattle.archive_shape_layout.specs.Value.{Value, Values}
+use Rattle.archive_shape_layout.specs.Value.Value.{string, group}
+use Rattle.archive_shape_layout.specs.Value.Values.{no_values, more_values}
+use Rattle.archive_shape_layout.specs.Content.{members, control_count}
+use Rattle.archive_shape_canonical.specs.FirstFit.{hash_tag}
+use Rattle.archive_shape_canonical.specs.Hash.{text_hash}
+use Rattle.archive_shape_canonical.specs.Reach.{reach, Reaches}
 use Rattle.cabinet_documents.specs.Order.{is_same}
 
 -- a full place, the number that it represents (in a hashed map the place itself, in a kept map an entry), and the key

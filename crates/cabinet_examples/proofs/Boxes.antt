@@ -1,7 +1,7 @@
 -- Archives of other types, by computation.
 use Rattle.std.proofs.Common.{[], refl}
-use Rattle.cabinet_documents.proofs.ShapeLayout.Evaluate.{run}
-use Rattle.cabinet_documents.proofs.ShapeLayout.Evaluated.{root_found, root_refused}
+use Rattle.archive_shape_layout.proofs.Evaluate.{run}
+use Rattle.archive_shape_layout.proofs.Evaluated.{root_found, root_refused}
 use Rattle.cabinet_examples.specs.Boxes.{BoxedBytesInAnOption, BoxesThatLeadBeforeTheBuffer, BoxesThatOverlap, BoxesInACircle, OnePositionWithTwoLengths, MapOfANonzeroNumber, LeafShorterThanItsMap, MapWithAKeyOfZero}
 
 pub boxed_bytes_in_an_option : BoxedBytesInAnOption

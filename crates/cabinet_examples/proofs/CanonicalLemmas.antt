@@ -1,8 +1,8 @@
 -- The archives of the worked documents are canonical, and hashes of texts are as stated: by computation.
 use Rattle.std.proofs.Common.{[], ◌∷◌, refl}
-use Rattle.cabinet_documents.specs.ShapeCanonical.FirstFit.{first_fit}
-use Rattle.cabinet_documents.proofs.ShapeCanonical.Evaluate.{run_canonical, archive_found}
-use Rattle.cabinet_documents.specs.ShapeCanonical.Hash.{hash_word, words_from, words_of, text_hash}
+use Rattle.archive_shape_canonical.specs.FirstFit.{first_fit}
+use Rattle.archive_shape_canonical.proofs.Evaluate.{run_canonical, archive_found}
+use Rattle.archive_shape_canonical.specs.Hash.{hash_word, words_from, words_of, text_hash}
 use Rattle.cabinet_examples.specs.Node.{node_shape, node_names}
 use Rattle.cabinet_examples.specs.Pieces.{item_of, region}
 use Rattle.cabinet_examples.specs.Documents.{number_value, truth_value, text_value, shared_value, no_value, some_value, list_value, ordered_value, hashed_value, kept_value, whole_value, number_bytes, truth_bytes, nothing_bytes, some_number_bytes, empty_list_bytes, long_text_bytes, shared_text_bytes, empty_shared_text_bytes, whole_bytes, two_ordered_bytes, six_ordered_bytes, one_hashed_bytes, nested_bytes, two_kept_bytes, empty_kept_bytes}

@@ -1,9 +1,9 @@
 -- The documents hold what is stated: by computation.
 use Rattle.std.proofs.Common.{[], ◌∷◌, refl, codes}
-use Rattle.cabinet_documents.specs.ShapeLayout.Shape.Pointee.{sized, str}
-use Rattle.cabinet_documents.specs.ShapeLayout.Value.Value.{string}
-use Rattle.cabinet_documents.proofs.ShapeLayout.Evaluate.{run}
-use Rattle.cabinet_documents.proofs.ShapeLayout.Evaluated.{root_found}
+use Rattle.archive_shape_layout.specs.Shape.Pointee.{sized, str}
+use Rattle.archive_shape_layout.specs.Value.Value.{string}
+use Rattle.archive_shape_layout.proofs.Evaluate.{run}
+use Rattle.archive_shape_layout.proofs.Evaluated.{root_found}
 use Rattle.cabinet_examples.specs.Sizes.{NodeSizes}
 use Rattle.cabinet_examples.specs.Node.{node_names, node_shape}
 use Rattle.cabinet_examples.specs.Documents.{NumberAtTheRoot, TruthAtTheRoot, LongTextAtTheRoot, NothingAtTheRoot, SomeNumber, SixtyFourOptions, EmptyList, SharedTextTwice, EmptySharedTextTwice, WholeTwice, OrderedMapOfTwo, OrderedMapOfSix, OrderedMapWithAnEmptyLeaf, HashedMapOfOne, ListInAMapInAMap, KeptMapOfTwo, EmptyKeptMap, options, options_value, options_regions, number_value}

@@ -1,7 +1,7 @@
 -- What the layout allows, and what it refuses, by computation.
 use Rattle.std.proofs.Common.{[], refl}
-use Rattle.cabinet_documents.proofs.ShapeLayout.Evaluate.{run}
-use Rattle.cabinet_documents.proofs.ShapeLayout.Evaluated.{root_found, root_refused}
+use Rattle.archive_shape_layout.proofs.Evaluate.{run}
+use Rattle.archive_shape_layout.proofs.Evaluated.{root_found, root_refused}
 use Rattle.cabinet_examples.specs.Doubtful.{OrderedMapWithARepeatedKey, HashedMapWithARepeatedKey, HashedMapWithAnotherTag, OrderedMapWithPadding, EmptyBuffer}
 
 pub ordered_map_with_a_repeated_key : OrderedMapWithARepeatedKey

@@ -1,12 +1,12 @@
 -- The images are as stated: a law gives each document's, and computation its bytes and that it is within the limits.
 use Rattle.std.proofs.Common.{ℕ, [], ◌^◌, ◌<◌, pos, refl, lit<, lit≤, w64, codes, FitsSigned, arith}
 use Rattle.std.proofs.lemmas.Int.{ints}
-use Rattle.cabinet_documents.specs.ShapeLayout.Bytes.{align_up}
-use Rattle.cabinet_documents.specs.ShapeLayout.Content.{shape_content, choose, number_value}
-use Rattle.cabinet_documents.specs.ArchiveShape.Offsets.{FitsOffset}
-use Rattle.cabinet_documents.specs.TextGrammar.Tree.{leaf, number}
-use Rattle.cabinet_documents.proofs.FormsLaws.Gaps.{bytes_none, bytes_more, bytes_number}
-use Rattle.cabinet_documents.proofs.TextGrammar.Utf8.{IsUtf8-word}
+use Rattle.archive_shape_layout.specs.Bytes.{align_up}
+use Rattle.archive_shape_layout.specs.Content.{shape_content, choose, number_value}
+use Rattle.archive_shape.specs.Offsets.{FitsOffset}
+use Rattle.cabinet_text_grammar.specs.Tree.{leaf, number}
+use Rattle.archive_forms_laws.proofs.Gaps.{bytes_none, bytes_more, bytes_number}
+use Rattle.cabinet_text_grammar.proofs.Utf8.{IsUtf8-word}
 use Rattle.cabinet_documents.proofs.Imaged.{written_is_image_law}
 use Rattle.cabinet_examples.specs.Images.{FiveImage, TrueImage, WorldImage, LongTextImage, NothingImage, SomeFiveImage, SevenAndNineteenImage, EmptyListImage, ListOfAnEmptyListImage, SharedTextImage, EmptySharedTextImage, WholeImage, shared_twice, whole_twice, seven_and_nineteen, seven_and_nineteen_bytes}
 

@@ -1,11 +1,11 @@
 -- What each rule refuses, by computation.
 use Rattle.std.proofs.Common.{[], ◌∷◌, ◌++◌, refl}
-use Rattle.cabinet_documents.specs.ShapeLayout.Shape.Shape.{tree}
+use Rattle.archive_shape_layout.specs.Shape.Shape.{tree}
 use Rattle.cabinet_examples.specs.Pieces.{group_of, region}
-use Rattle.cabinet_documents.specs.ShapeLayout.Shape.Pointee.{sized}
-use Rattle.cabinet_documents.specs.ShapeLayout.Value.Value.{back}
-use Rattle.cabinet_documents.proofs.ShapeLayout.Evaluate.{run}
-use Rattle.cabinet_documents.proofs.ShapeLayout.Evaluated.{root_found, root_refused}
+use Rattle.archive_shape_layout.specs.Shape.Pointee.{sized}
+use Rattle.archive_shape_layout.specs.Value.Value.{back}
+use Rattle.archive_shape_layout.proofs.Evaluate.{run}
+use Rattle.archive_shape_layout.proofs.Evaluated.{root_found, root_refused}
 use Rattle.cabinet_examples.specs.Refused.{BoxThatIsNotAligned, UnknownTag, UnknownTagOfAnOption, TruthValueOfTwo, SurrogateChar, BrokenInlineText, BrokenLongText, LongTextOfEight, TableWithoutRoom, ControlThatDoesNotRepeat, EmptyControlThatDoesNotRepeat, TagBeyondTwiceTheCapacity, MoreTagsThanItems, PlaceOutsideTheMap, LeafOfSix, UnknownKindOfNode, ThirtyTwoLevels, ThirtyThreeLevels, OnePositionWithTwoShapes, LoopOfAFlavorWithCycles, LoopOfAFlavorWithoutCycles, ring, levels_bytes, unit, unit_entries, level_regions}
 
 pub box_that_is_not_aligned : BoxThatIsNotAligned

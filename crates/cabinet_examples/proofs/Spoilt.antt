@@ -1,16 +1,16 @@
 -- The layout accepts the spoilt documents, by computation; each has the value of a canonical archive with other bytes, so
 -- it is not canonical itself.
 use Rattle.std.proofs.Common.{◌≡◌, ℕ, false, List, [], ◌∷◌, refl, ap, ◌∙◌}
-use Rattle.cabinet_documents.specs.ShapeLayout.Value.{Value}
-use Rattle.cabinet_documents.specs.ShapeLayout.Holds.{Region, Visit}
-use Rattle.cabinet_documents.proofs.ShapeLayout.Evaluate.{run}
-use Rattle.cabinet_documents.proofs.ShapeLayout.Evaluated.{root_found}
-use Rattle.cabinet_documents.proofs.ShapeLayout.Unique.{one_value}
-use Rattle.cabinet_documents.specs.ShapeCanonical.Sharing.{erased}
-use Rattle.cabinet_documents.specs.ShapeCanonical.FirstFit.{first_fit}
-use Rattle.cabinet_documents.proofs.ShapeCanonical.SameValue.{same_numbers, numbers_differ}
-use Rattle.cabinet_documents.proofs.ShapeCanonical.One.{one_archive_law}
-use Rattle.cabinet_documents.specs.ShapeCanonical.Hash.{text_hash}
+use Rattle.archive_shape_layout.specs.Value.{Value}
+use Rattle.archive_shape_layout.specs.Holds.{Region, Visit}
+use Rattle.archive_shape_layout.proofs.Evaluate.{run}
+use Rattle.archive_shape_layout.proofs.Evaluated.{root_found}
+use Rattle.archive_shape_layout.proofs.Unique.{one_value}
+use Rattle.archive_shape_canonical.specs.Sharing.{erased}
+use Rattle.archive_shape_canonical.specs.FirstFit.{first_fit}
+use Rattle.archive_shape_canonical.proofs.SameValue.{same_numbers, numbers_differ}
+use Rattle.archive_shape_canonical.proofs.One.{one_archive_law}
+use Rattle.archive_shape_canonical.specs.Hash.{text_hash}
 use Rattle.cabinet_examples.specs.Node.{node_shape, node_names}
 use Rattle.cabinet_examples.specs.Pieces.{item_of, region}
 use Rattle.cabinet_examples.specs.Documents.{HoldsDocument, number_value, text_value, shared_value, some_value, list_value, ordered_value, hashed_value, kept_value, empty_leaf_bytes}

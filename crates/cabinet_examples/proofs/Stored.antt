@@ -1,16 +1,16 @@
 -- What worked documents store, from their plans.
 use Rattle.std.proofs.Common.{◌≡◌, ℕ, [], Some, refl, inl, lit≤, lit<}
-use Rattle.cabinet_documents.specs.ShapeLayout.Bytes.{align_up}
-use Rattle.cabinet_documents.specs.ShapeLayout.Shape.{Shape, align_of}
-use Rattle.cabinet_documents.specs.ShapeLayout.Value.{Value}
-use Rattle.cabinet_documents.specs.ShapeLayout.Value.Value.{chosen}
-use Rattle.cabinet_documents.specs.ShapeLayout.Value.Values.{no_values, more_values}
-use Rattle.cabinet_documents.specs.ShapeLayout.Content.{shape_tagged}
-use Rattle.cabinet_documents.specs.ShapeCanonical.FirstFit.{first_fit}
-use Rattle.cabinet_documents.specs.ShapeCanonical.Plan.{Plan, parts, no_plans, more_plans, HasPlan, plan_flat, plan_inline, plan_text, plan_tuple, plan_choice, plan_vector, plan_shared, plan_tree, plan_table, plan_named, plan_slice, plan_str, plan_leaf_node, plans_none, plans_at, plans_entry, number_is_flat}
-use Rattle.cabinet_documents.specs.ShapeCanonical.Limits.{State, lies_flat, lies_parts, lies_leads, lies_text, lies_first, lies_later, lie_none, lie_more}
-use Rattle.cabinet_documents.proofs.ShapeCanonical.Evaluate.{run_canonical}
-use Rattle.cabinet_documents.specs.ShapeCanonical.Hash.{hash_word, words_from, words_of, text_hash}
+use Rattle.archive_shape_layout.specs.Bytes.{align_up}
+use Rattle.archive_shape_layout.specs.Shape.{Shape, align_of}
+use Rattle.archive_shape_layout.specs.Value.{Value}
+use Rattle.archive_shape_layout.specs.Value.Value.{chosen}
+use Rattle.archive_shape_layout.specs.Value.Values.{no_values, more_values}
+use Rattle.archive_shape_layout.specs.Content.{shape_tagged}
+use Rattle.archive_shape_canonical.specs.FirstFit.{first_fit}
+use Rattle.archive_shape_canonical.specs.Plan.{Plan, parts, no_plans, more_plans, HasPlan, plan_flat, plan_inline, plan_text, plan_tuple, plan_choice, plan_vector, plan_shared, plan_tree, plan_table, plan_named, plan_slice, plan_str, plan_leaf_node, plans_none, plans_at, plans_entry, number_is_flat}
+use Rattle.archive_shape_canonical.specs.Limits.{State, lies_flat, lies_parts, lies_leads, lies_text, lies_first, lies_later, lie_none, lie_more}
+use Rattle.archive_shape_canonical.proofs.Evaluate.{run_canonical}
+use Rattle.archive_shape_canonical.specs.Hash.{hash_word, words_from, words_of, text_hash}
 use Rattle.cabinet_examples.specs.Node.{node_shape, node_names, payloads}
 use Rattle.cabinet_examples.specs.Stored.{StoredText, StoredSharedText, StoredNestedMaps}
 

@@ -1,14 +1,14 @@
 -- Small archives of other types: boxes, counted pointers, a list type and a map of numbers.
 use Rattle.std.specs.Prelude.{ℕ, false, List, [], ◌∷◌, ◌++◌, map, codes}
 use Rattle.std.specs.Int.{w8, w32}
-use Rattle.cabinet_documents.specs.ShapeLayout.Shape.{Shape}
-use Rattle.cabinet_documents.specs.ShapeLayout.Shape.Alignment.{four}
-use Rattle.cabinet_documents.specs.ShapeLayout.Shape.Shape.{number, nonzero, tuple, array, option, choice, box, shared, tree, named}
-use Rattle.cabinet_documents.specs.ShapeLayout.Shape.Shapes.{no_shapes, more_shapes}
-use Rattle.cabinet_documents.specs.ShapeLayout.Shape.Pointee.{sized, slice}
-use Rattle.cabinet_documents.specs.ShapeLayout.Value.{Value}
-use Rattle.cabinet_documents.specs.ShapeLayout.Value.Value.{natural, chosen}
-use Rattle.cabinet_documents.specs.ShapeLayout.Content.{Names}
+use Rattle.archive_shape_layout.specs.Shape.{Shape}
+use Rattle.archive_shape_layout.specs.Shape.Alignment.{four}
+use Rattle.archive_shape_layout.specs.Shape.Shape.{number, nonzero, tuple, array, option, choice, box, shared, tree, named}
+use Rattle.archive_shape_layout.specs.Shape.Shapes.{no_shapes, more_shapes}
+use Rattle.archive_shape_layout.specs.Shape.Pointee.{sized, slice}
+use Rattle.archive_shape_layout.specs.Value.{Value}
+use Rattle.archive_shape_layout.specs.Value.Value.{natural, chosen}
+use Rattle.archive_shape_layout.specs.Content.{Names}
 use Rattle.cabinet_examples.specs.Pieces.{zeros, values, group_of, region}
 use Rattle.cabinet_examples.specs.Root.{HoldsAtRoot, HoldsNothing}
 

@@ -1,13 +1,13 @@
 -- Worked documents whose bytes are the one archive of their value, and the hashes that place their keys.
 use Rattle.std.specs.Prelude.{◌≡◌, ℕ, List, [], ◌∷◌, ◌++◌, codes}
 use Prim.Native.String.{String}
-use Rattle.cabinet_documents.specs.ShapeLayout.Shape.Pointee.{sized, str}
-use Rattle.cabinet_documents.specs.ShapeLayout.Value.{Value}
-use Rattle.cabinet_documents.specs.ShapeLayout.Value.Value.{string}
-use Rattle.cabinet_documents.specs.ShapeLayout.Holds.{Region, Visit}
-use Rattle.cabinet_documents.specs.ShapeCanonical.FirstFit.{first_fit}
-use Rattle.cabinet_documents.specs.ShapeCanonical.Canonical.{CanonicalArchive}
-use Rattle.cabinet_documents.specs.ShapeCanonical.Hash.{text_hash}
+use Rattle.archive_shape_layout.specs.Shape.Pointee.{sized, str}
+use Rattle.archive_shape_layout.specs.Value.{Value}
+use Rattle.archive_shape_layout.specs.Value.Value.{string}
+use Rattle.archive_shape_layout.specs.Holds.{Region, Visit}
+use Rattle.archive_shape_canonical.specs.FirstFit.{first_fit}
+use Rattle.archive_shape_canonical.specs.Canonical.{CanonicalArchive}
+use Rattle.archive_shape_canonical.specs.Hash.{text_hash}
 use Rattle.cabinet_examples.specs.Node.{node_shape, node_names}
 use Rattle.cabinet_examples.specs.Pieces.{zeros, filler, inline, number_node, item_of, region}
 use Rattle.cabinet_examples.specs.Documents.{number_value, truth_value, text_value, shared_value, no_value, some_value, list_value, ordered_value, hashed_value, kept_value, whole_value, number_bytes, truth_bytes, nothing_bytes, some_number_bytes, empty_list_bytes, long_text_bytes, shared_text_bytes, empty_shared_text_bytes, whole_bytes, two_ordered_bytes, six_ordered_bytes, one_hashed_bytes, nested_bytes, two_kept_bytes, empty_kept_bytes}

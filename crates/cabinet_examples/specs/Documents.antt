@@ -1,9 +1,9 @@
 -- Documents that are written out, with the values that they hold and the regions that they claim.
 use Rattle.std.specs.Prelude.{ℕ, zero, suc, ◌+◌, true, List, [], ◌∷◌, ◌++◌, codes, pos}
 use Prim.Native.String.{String}
-use Rattle.cabinet_documents.specs.ShapeLayout.Value.{Value}
-use Rattle.cabinet_documents.specs.ShapeLayout.Value.Value.{integer, boolean, string, chosen, counted}
-use Rattle.cabinet_documents.specs.ShapeLayout.Holds.{Region}
+use Rattle.archive_shape_layout.specs.Value.{Value}
+use Rattle.archive_shape_layout.specs.Value.Value.{integer, boolean, string, chosen, counted}
+use Rattle.archive_shape_layout.specs.Holds.{Region}
 use Rattle.cabinet_examples.specs.Node.{node_shape, node_names}
 use Rattle.cabinet_examples.specs.Pieces.{zeros, filler, inline, number_node, values, group_of, item_of, region}
 use Rattle.cabinet_examples.specs.Root.{HoldsAtRoot}

@@ -1,6 +1,6 @@
 -- Documents whose images are written out.
 use Rattle.std.specs.Prelude.{ℕ, List, [], ◌∷◌, ◌++◌, codes, pos, true}
-use Rattle.cabinet_documents.specs.TextGrammar.Tree.{Tree, leaf, shared, nothing, just, list, whole, no_trees, more_trees, truth, number, text}
+use Rattle.cabinet_text_grammar.specs.Tree.{Tree, leaf, shared, nothing, just, list, whole, no_trees, more_trees, truth, number, text}
 use Rattle.cabinet_documents.specs.Image.{Image}
 use Rattle.cabinet_examples.specs.Pieces.{zeros, filler, number_node}
 use Rattle.cabinet_examples.specs.Documents.{number_bytes, truth_bytes, long_text_bytes, nothing_bytes, some_number_bytes, empty_list_bytes, shared_text_bytes, empty_shared_text_bytes, whole_bytes}

@@ -2,12 +2,12 @@
 -- byte, then the payload of the tag at its alignment.
 use Rattle.std.specs.Prelude.{true, false, [], ◌∷◌}
 use Rattle.std.specs.Int.{w64}
-use Rattle.cabinet_documents.specs.ShapeLayout.Shape.{Shape, Shapes}
-use Rattle.cabinet_documents.specs.ShapeLayout.Shape.Alignment.{eight}
-use Rattle.cabinet_documents.specs.ShapeLayout.Shape.Shape.{number, truth, text, option, choice, box, vector, shared, tree, table, index_map, named, tuple}
-use Rattle.cabinet_documents.specs.ShapeLayout.Shape.Shapes.{no_shapes, more_shapes}
-use Rattle.cabinet_documents.specs.ShapeLayout.Shape.Pointee.{sized, str}
-use Rattle.cabinet_documents.specs.ShapeLayout.Content.{Names}
+use Rattle.archive_shape_layout.specs.Shape.{Shape, Shapes}
+use Rattle.archive_shape_layout.specs.Shape.Alignment.{eight}
+use Rattle.archive_shape_layout.specs.Shape.Shape.{number, truth, text, option, choice, box, vector, shared, tree, table, index_map, named, tuple}
+use Rattle.archive_shape_layout.specs.Shape.Shapes.{no_shapes, more_shapes}
+use Rattle.archive_shape_layout.specs.Shape.Pointee.{sized, str}
+use Rattle.archive_shape_layout.specs.Content.{Names}
 
 -- a node contains nodes, so its shape is recursive and has a name, 0
 abbrev pub node_shape : Shape

@@ -1,10 +1,10 @@
 -- Pieces of archives that are written out byte by byte, and of the values that they hold.
 use Rattle.std.specs.Prelude.{ℕ, zero, suc, ◌-◌, List, [], ◌∷◌, ◌++◌, length, codes}
 use Prim.Native.String.{String}
-use Rattle.cabinet_documents.specs.ShapeLayout.Value.{Value, Values}
-use Rattle.cabinet_documents.specs.ShapeLayout.Value.Value.{string, group}
-use Rattle.cabinet_documents.specs.ShapeLayout.Value.Values.{no_values, more_values}
-use Rattle.cabinet_documents.specs.ShapeLayout.Holds.{Region}
+use Rattle.archive_shape_layout.specs.Value.{Value, Values}
+use Rattle.archive_shape_layout.specs.Value.Value.{string, group}
+use Rattle.archive_shape_layout.specs.Value.Values.{no_values, more_values}
+use Rattle.archive_shape_layout.specs.Holds.{Region}
 
 -- ---- bytes
 

@@ -1,15 +1,15 @@
 -- One buffer for each rule that refuses, which breaks only that rule; and at the limits, what is still accepted.
 use Rattle.std.specs.Prelude.{ℕ, zero, suc, ◌+◌, true, false, Bool, List, [], ◌∷◌, ◌++◌, codes}
 use Rattle.std.specs.Int.{w8, w32}
-use Rattle.cabinet_documents.specs.ShapeLayout.Shape.{Shape}
-use Rattle.cabinet_documents.specs.ShapeLayout.Shape.Alignment.{four}
-use Rattle.cabinet_documents.specs.ShapeLayout.Shape.Shape.{number, character, tuple, shared, tree, named}
-use Rattle.cabinet_documents.specs.ShapeLayout.Shape.Shapes.{no_shapes, more_shapes}
-use Rattle.cabinet_documents.specs.ShapeLayout.Shape.Pointee.{sized, slice}
-use Rattle.cabinet_documents.specs.ShapeLayout.Value.{Value}
-use Rattle.cabinet_documents.specs.ShapeLayout.Value.Value.{counted, back}
-use Rattle.cabinet_documents.specs.ShapeLayout.Content.{Names}
-use Rattle.cabinet_documents.specs.ShapeLayout.Holds.{Region}
+use Rattle.archive_shape_layout.specs.Shape.{Shape}
+use Rattle.archive_shape_layout.specs.Shape.Alignment.{four}
+use Rattle.archive_shape_layout.specs.Shape.Shape.{number, character, tuple, shared, tree, named}
+use Rattle.archive_shape_layout.specs.Shape.Shapes.{no_shapes, more_shapes}
+use Rattle.archive_shape_layout.specs.Shape.Pointee.{sized, slice}
+use Rattle.archive_shape_layout.specs.Value.{Value}
+use Rattle.archive_shape_layout.specs.Value.Value.{counted, back}
+use Rattle.archive_shape_layout.specs.Content.{Names}
+use Rattle.archive_shape_layout.specs.Holds.{Region}
 use Rattle.cabinet_examples.specs.Node.{node_shape, node_names}
 use Rattle.cabinet_examples.specs.Pieces.{zeros, filler, inline, number_node, group_of, region}
 use Rattle.cabinet_examples.specs.Root.{HoldsAtRoot, HoldsNothing}

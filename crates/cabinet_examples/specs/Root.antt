@@ -1,9 +1,9 @@
 -- What a buffer has at its root.
 use Rattle.std.specs.Prelude.{◌≡◌, ℕ, List, length}
-use Rattle.cabinet_documents.specs.ShapeLayout.Shape.{Shape}
-use Rattle.cabinet_documents.specs.ShapeLayout.Value.{Value}
-use Rattle.cabinet_documents.specs.ShapeLayout.Content.{Names}
-use Rattle.cabinet_documents.specs.ShapeLayout.Holds.{Region, Visit, HasRoot, root_position}
+use Rattle.archive_shape_layout.specs.Shape.{Shape}
+use Rattle.archive_shape_layout.specs.Value.{Value}
+use Rattle.archive_shape_layout.specs.Content.{Names}
+use Rattle.archive_shape_layout.specs.Holds.{Region, Visit, HasRoot, root_position}
 
 -- a buffer of a size has its root at a position, where it holds a value and claims regions, in this order
 pub record HoldsAtRoot (names : Names) (shape : Shape) (bytes : List ℕ) (size pos : ℕ) (value : Value) (regions : List Region) : Type 0 where

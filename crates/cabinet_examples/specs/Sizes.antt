@@ -1,8 +1,8 @@
 -- The sizes of document nodes and of what maps are made of.
 use Rattle.std.specs.Prelude.{◌≡◌}
-use Rattle.cabinet_documents.specs.ShapeLayout.Shape.{align_of, size_of}
-use Rattle.cabinet_documents.specs.ShapeLayout.Shape.Shape.{text, choice}
-use Rattle.cabinet_documents.specs.ShapeLayout.Content.{link_node_size}
+use Rattle.archive_shape_layout.specs.Shape.{align_of, size_of}
+use Rattle.archive_shape_layout.specs.Shape.Shape.{text, choice}
+use Rattle.archive_shape_layout.specs.Content.{link_node_size}
 use Rattle.cabinet_examples.specs.Node.{node_shape, pair, payloads}
 
 -- of a node, of a hashed or kept map's item, and of an ordered map's leaf and inner node

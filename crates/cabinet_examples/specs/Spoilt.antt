@@ -1,7 +1,7 @@
 -- Documents that the layout accepts, and that writing makes of no value.
 use Rattle.std.specs.Prelude.{ℕ, List, [], ◌∷◌, ◌++◌, codes}
-use Rattle.cabinet_documents.specs.ShapeLayout.Value.{Value}
-use Rattle.cabinet_documents.specs.ShapeLayout.Holds.{Region, Visit}
+use Rattle.archive_shape_layout.specs.Value.{Value}
+use Rattle.archive_shape_layout.specs.Holds.{Region, Visit}
 use Rattle.cabinet_examples.specs.Pieces.{zeros, filler, inline, number_node, item_of, region}
 use Rattle.cabinet_examples.specs.Documents.{HoldsDocument, number_value, text_value, shared_value, some_value, list_value, ordered_value, hashed_value, kept_value, number_bytes, empty_leaf_bytes}
 use Rattle.cabinet_examples.specs.Canonical.{IsArchive, five_ordered_value, six_ordered_value}

@@ -1,9 +1,9 @@
 -- What worked documents store in fields of a limited width: offsets, counts, lengths of texts and positions of regions.
 use Rattle.std.specs.Prelude.{List, [], ◌∷◌}
-use Rattle.cabinet_documents.specs.ShapeCanonical.FirstFit.{first_fit}
-use Rattle.cabinet_documents.specs.ShapeCanonical.Limits.{Field, offset, position, count, text_length, Stores}
-use Rattle.cabinet_documents.specs.ShapeLayout.Value.{Value}
-use Rattle.cabinet_documents.specs.ShapeCanonical.Hash.{text_hash}
+use Rattle.archive_shape_canonical.specs.FirstFit.{first_fit}
+use Rattle.archive_shape_canonical.specs.Limits.{Field, offset, position, count, text_length, Stores}
+use Rattle.archive_shape_layout.specs.Value.{Value}
+use Rattle.archive_shape_canonical.specs.Hash.{text_hash}
 use Rattle.cabinet_examples.specs.Node.{node_shape, node_names}
 use Rattle.cabinet_examples.specs.Pieces.{item_of}
 use Rattle.cabinet_examples.specs.Documents.{number_value, text_value, shared_value, list_value, ordered_value, hashed_value}

@@ -1,6 +1,6 @@
 //! Tests of the kinds that paths lead to, and of what the look-ups on them take, by each scan.
 use crate::archives::{A_APART, EMPTY_HASHED, EMPTY_KEPT, EMPTY_ORDERED, FIVE_ABOVE_NONE, tall};
-use archive_shape_writing::Error;
+use archive_shape_layout::Error;
 use cabinet::{
     Document, Group1, Group8, Group16, Kind, Line, Node, OpenRefusal, Scan, Step, Steps, check,
     open, open_scanned, read_line, to_bytes,

@@ -3,7 +3,7 @@ use crate::archives::{
     A_APART, A_TO_ONE, A_TWICE, A_TWICE_KEPT, CYCLE, EMPTY_ORDERED, FIVE, SHARED, SHORT, TWO,
     TWO_LEAVES, TWO_OPTIONS, WHOLES_APART,
 };
-use archive_shape_writing::Error;
+use archive_shape_layout::Error;
 use cabinet::{Group1, Group8, Group16, OpenRefusal, check_scanned};
 use cabinet_doubles::archives::{
     COFFEE_AND_TEA, TWO_SHARED, TWO_WHOLES, WHOLE_IN_MAPS, WHOLE_IN_WHOLE, Z_AND_A,

@@ -1,5 +1,5 @@
 //! Tests of the texts that refusals and faults of runs are printed as.
-use archive_shape_writing::Error;
+use archive_shape_layout::Error;
 use cabinet::{OpenRefusal, RunCause, RunFault, SaveRefusal, SourceFailed};
 use std::fmt::Display;
 use std::process::Abort;

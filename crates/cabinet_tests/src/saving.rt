@@ -1,6 +1,6 @@
 //! Tests of saving and of answers where writing fails.
 use archive_core_serializing::Buffer;
-use archive_shape_writing::{Error, Positional};
+use archive_shape_layout::{Error, Positional};
 use cabinet::{Document, Line, Node, SaveRefusal, open, read_text, save, to_bytes};
 use cabinet_doubles::FailingWriter;
 use cabinet_doubles::archives::{COFFEE_AND_TEA, TWO_WHOLES};

@@ -1,10 +1,10 @@
 -- The keys of the pairs of a map: what is written of each, and how many lie within bounds.
 use Rattle.std.proofs.Common.{◌≡◌, ℕ, Bool, true, false, if◌then◌else◌, List, [], ◌∷◌, ◌++◌, flat_map, refl, sym, ap, ◌∙◌, subst, append_assoc, append-nil, codes, string_bytes, String, Global, length, ◌≤◌, ◌+◌, suc, cond, length-append, arith}
 use Rattle.std.specs.List.{filter}
-use Rattle.archive_shape_writing.specs.Progress.{Progress}
-use Rattle.archive_shape_writing.specs.declared.error.Error.{Error}
-use Rattle.archive_shape_writing.specs.Writing.{Written, Failed}
-use Rattle.archive_shape_writing.proofs.Joined.{written_none}
+use Rattle.archive_shape_layout.specs.Progress.{Progress}
+use Rattle.archive_shape_layout.specs.declared.error.Error.{Error}
+use Rattle.archive_shape_layout.specs.Writing.{Written, Failed}
+use Rattle.archive_shape_layout.proofs.Joined.{written_none}
 use Rattle.cabinet_text_grammar.specs.Tree.{Tree}
 use Rattle.cabinet_text_grammar.specs.Item.{key_item}
 use Rattle.cabinet_text_grammar.specs.Spelling.{spelled}

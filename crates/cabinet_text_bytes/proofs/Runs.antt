@@ -1,10 +1,10 @@
 -- Texts that are written in runs between their escapes.
 use Rattle.std.proofs.Common.{◌≡◌, ℕ, ◌+◌, ◌-◌, ◌<◌, ◌≤◌, Bool, List, [], ◌∷◌, ◌++◌, length, get_or, take, drop, sym, ap, ◌∙◌, subst, arith, append_assoc, append-nil, length-drop, Result}
 use Rattle.std.proofs.lemmas.List.{take_more, take-append-drop, take_all, get_or-drop}
-use Rattle.archive_shape_writing.specs.Progress.{Progress}
-use Rattle.archive_shape_writing.specs.declared.error.Error.{Error}
-use Rattle.archive_shape_writing.specs.Writing.{Written, Failed, Appends}
-use Rattle.archive_shape_writing.proofs.Joined.{written_both, failed_first, failed_after, appends_after}
+use Rattle.archive_shape_layout.specs.Progress.{Progress}
+use Rattle.archive_shape_layout.specs.declared.error.Error.{Error}
+use Rattle.archive_shape_layout.specs.Writing.{Written, Failed, Appends}
+use Rattle.archive_shape_layout.proofs.Joined.{written_both, failed_first, failed_after, appends_after}
 use Rattle.cabinet_text_grammar.specs.Spelling.{escaped, escaped_byte}
 use Rattle.cabinet_text_grammar.proofs.Escapes.{escaped-append}
 

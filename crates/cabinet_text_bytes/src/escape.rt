@@ -1,15 +1,16 @@
 //! Reads escaped texts: whether bytes are one, and the text that they represent.
-ghost use Rattle.std.specs.Prelude.{◌≡◌, ◌≢◌, ℕ, ◌<◌, ◌≤◌, true, List, [], ◌∷◌, ◌++◌, length, slice_index, string_bytes, IsUtf8, MatchOption, IfOk, OnErr};
+ghost use Rattle.std.specs.Prelude.{◌≡◌, ◌≢◌, ℕ, ◌<◌, ◌≤◌, true, [], ◌++◌, length, slice_index, string_bytes, IsUtf8, IfOk, OnErr};
 ghost use Rattle.std.specs.Bool.{OnTrue, OnFalse};
 ghost use Rattle.std.specs.List.{list_all};
+ghost use Rattle.cabinet_text_bytes.specs.Calls.{ReadsFirstByte, ReadsLength, ReadsEscaped, ReadsText};
 ghost use Rattle.cabinet_text_bytes.specs.Words.{IsEscaped, is_plain_byte};
-ghost use Rattle.cabinet_text_grammar.specs.Spelling.{escaped, escaped_byte};
+ghost use Rattle.cabinet_text_grammar.specs.Spelling.{escaped};
 
 use std::alloc::{AllocError, Global};
 
 /// Returns the byte that an escaped text begins with, and the bytes after its escaped form.
 pub fn first_byte(escaped_text: &[u8]) -> Option<(u8, &[u8])>
-    ensures { MatchOption result ((b : ℕ) (t : List ℕ) → escaped_text.now ≢ escaped (b ∷ t)) (λ p. escaped_text.now ≡ escaped_byte p.0 ++ p.1.now) }
+    ensures { ReadsFirstByte escaped_text.now result }
 {
     match escaped_text {
         [b'\\', b'\\', rest @ ..] => Some((b'\\', rest)),
@@ -29,7 +30,7 @@ fn is_plain(bytes: &[u8]) -> bool
 
 /// Returns the length of the text that bytes are the escaped form of, if there is one.
 pub fn unescaped_len(argument: &[u8]) -> Option<usize>
-    ensures { MatchOption result ((t : List ℕ) → argument.now ≢ escaped t) (λ n. (t : List ℕ) × (length t ≡ n) × (argument.now ≡ escaped t)) }
+    ensures { ReadsLength argument.now result }
 {
     if is_plain(argument) {
         Some(argument.len())
@@ -40,7 +41,7 @@ pub fn unescaped_len(argument: &[u8]) -> Option<usize>
 
 /// Returns the same length, counted byte by byte.
 fn count_bytes(argument: &[u8]) -> Option<usize>
-    ensures { MatchOption result ((t : List ℕ) → argument.now ≢ escaped t) (λ n. (t : List ℕ) × (length t ≡ n) × (argument.now ≡ escaped t)) }
+    ensures { ReadsLength argument.now result }
 {
     let mut rest = argument;
     let mut len = 0;
@@ -89,7 +90,7 @@ fn split_plain(bytes: &[u8]) -> (&[u8], &[u8])
 
 /// Returns the bytes that bytes are the escaped form of, if there are such. No bytes take no memory.
 fn unescape(alloc: Global, argument: &[u8]) -> Result<Option<Vec<u8>>, AllocError>
-    ensures text { IfOk result (λ text. MatchOption text ((t : List ℕ) → argument.now ≢ escaped t) (λ text. argument.now ≡ escaped text.items)) }
+    ensures text { IfOk result (ReadsEscaped argument.now) }
     ensures memory { OnErr result (argument.now ≢ []) }
 {
     let mut text = Vec::with_capacity(alloc, argument.len())?;
@@ -124,7 +125,7 @@ pub fn unescape_text(alloc: Global, argument: &[u8]) -> Result<String, AllocErro
 /// Returns the text that bytes are the escaped form of, if there is one. An empty text takes no memory.
 pub fn try_unescape(alloc: Global, argument: &[u8]) -> Result<Option<String>, AllocError>
     requires { IsUtf8 argument.now }
-    ensures text { IfOk result (λ text. MatchOption text (IsEscaped argument.now → ⊥) (λ text. argument.now ≡ escaped (string_bytes text))) }
+    ensures text { IfOk result (ReadsText argument.now) }
     ensures memory { OnErr result (IsEscaped argument.now × (argument.now ≢ [])) }
 {
     match unescape(alloc, argument) {

@@ -1,8 +1,7 @@
 //! Reads and writes numbers in decimal, in their shortest form.
-ghost use Rattle.std.specs.Prelude.{◌≡◌, ◌≢◌, ℕ, ℤ, ◌^◌, ◌<◌, ◌≤◌, ◌∷◌, drop, MatchOption, FitsSigned};
-ghost use Rattle.std.specs.Int.{w64};
+ghost use Rattle.std.specs.Prelude.{◌≡◌, ℕ, ◌<◌, ◌≤◌, drop};
 ghost use Rattle.std.specs.Fmt.{decimal, signed_decimal};
-ghost use Rattle.std.specs.Str.Parse.{AllDigits, digits_value};
+ghost use Rattle.cabinet_text_bytes.specs.Calls.{ReadsDigits, ReadsCount, ReadsBelowZero, ReadsNumber};
 
 use crate::spelling::after_prefix;
 use std::marker::Model;
@@ -80,7 +79,7 @@ impl Decimal {
 
 /// Returns the value of digits, or `None` if a byte is no digit or the value has more than 64 bits.
 fn value_of(digits: &[u8]) -> Option<u64>
-    ensures { MatchOption result (AllDigits 10 digits.now → 2 ^ 64 ≤ digits_value 10 digits.now) (λ n. (n < 2 ^ 64) × AllDigits 10 digits.now × (digits_value 10 digits.now ≡ n)) }
+    ensures { ReadsDigits digits.now result }
 {
     let mut value: u64 = 0;
     for byte in digits {
@@ -100,7 +99,7 @@ fn value_of(digits: &[u8]) -> Option<u64>
 
 /// Reads a count that is written in decimal in its shortest form.
 pub fn read_count(digits: &[u8]) -> Option<u64>
-    ensures { MatchOption result ((n : ℕ) → n < 2 ^ 64 → digits.now ≢ decimal n) (λ n. digits.now ≡ decimal n) }
+    ensures { ReadsCount digits.now result }
 {
     if digits.is_empty() {
         return None;
@@ -113,7 +112,7 @@ pub fn read_count(digits: &[u8]) -> Option<u64>
 
 /// Returns the number at a distance below zero, or `None` if the distance is 0 or the number does not fit in 64 bits.
 fn below_zero(distance: u64) -> Option<i64>
-    ensures { MatchOption result ((n : ℤ) → FitsSigned w64 n → signed_decimal n ≢ 45 ∷ decimal distance) (λ n. FitsSigned w64 n × (signed_decimal n ≡ 45 ∷ decimal distance)) }
+    ensures { ReadsBelowZero distance result }
 {
     if distance == 0 || distance > MIN_MAGNITUDE {
         return None;
@@ -123,7 +122,7 @@ fn below_zero(distance: u64) -> Option<i64>
 
 /// Reads a number of 64 bits that is written in decimal in its shortest form.
 pub fn read_number(bytes: &[u8]) -> Option<i64>
-    ensures { MatchOption result ((n : ℤ) → FitsSigned w64 n → bytes.now ≢ signed_decimal n) (λ n. FitsSigned w64 n × (bytes.now ≡ signed_decimal n)) }
+    ensures { ReadsNumber bytes.now result }
 {
     if let Some(digits) = after_prefix(bytes, b"-".as_slice()) {
         let Some(distance) = read_count(digits) else {

@@ -1,12 +1,11 @@
 //! Reads what texts and lines have in common: prefixes, words and truth values.
-ghost use Rattle.std.specs.Prelude.{◌≡◌, ◌≢◌, ◌<◌, ◌≤◌, ◌++◌, List, ℕ, Bool, length, slice_index, MatchOption};
-ghost use Rattle.cabinet_text_grammar.specs.Tree.{truth};
-ghost use Rattle.cabinet_text_grammar.specs.Spelling.{spelled_leaf};
+ghost use Rattle.std.specs.Prelude.{◌≡◌, ◌≢◌, ◌<◌, ◌≤◌, ◌++◌, ℕ, length, slice_index};
+ghost use Rattle.cabinet_text_bytes.specs.Calls.{CutsPrefix, ReadsTruth};
 ghost use Rattle.cabinet_text_bytes.specs.Words.{HasNoSpace, IsAtSpace};
 
 /// Returns the bytes after a prefix, or `None` if they do not begin with it.
 pub fn after_prefix<'a>(bytes: &'a [u8], prefix: &[u8]) -> Option<&'a [u8]>
-    ensures { MatchOption result ((rest : List ℕ) → bytes.now ≢ prefix.now ++ rest) (λ rest. bytes.now ≡ prefix.now ++ rest.now) }
+    ensures { CutsPrefix prefix.now bytes.now result }
 {
     bytes.strip_prefix(prefix)
 }
@@ -34,7 +33,7 @@ pub fn split_word(bytes: &[u8]) -> (&[u8], &[u8])
 
 /// Reads the line of a truth value, `bool true` or `bool false`.
 pub fn read_truth(bytes: &[u8]) -> Option<bool>
-    ensures { MatchOption result ((b : Bool) → bytes.now ≢ spelled_leaf (truth b)) (λ b. bytes.now ≡ spelled_leaf (truth b)) }
+    ensures { ReadsTruth bytes.now result }
 {
     if bytes == b"bool true".as_slice() {
         return Some(true);

@@ -1,6 +1,6 @@
 -- The errors of copying a text.
 use Rattle.std.specs.Prelude.{ℕ, List, ⊤}
-use Rattle.cabinet_text_reading.specs.TextGrammar.Fault.{FirstFault}
+use Rattle.cabinet_text_grammar.specs.Fault.{FirstFault}
 use Rattle.cabinet_text_copy.specs.declared.copying.Fault.{Fault}
 use Rattle.cabinet_text_copy.specs.declared.copying.Fault.TheVariants.{Text, Read, Write}
 

@@ -10,7 +10,6 @@ pub mod Repeats
 pub mod Seen
 pub mod TableFaults
 pub mod Tables
-pub mod TextGrammar
 pub mod Texts
 pub mod Twice
 pub mod Views

@@ -2,10 +2,10 @@
 use Rattle.std.proofs.Common.{◌≡◌, ℕ, Bool, List, [], ◌∷◌, ◌++◌, flat_map, refl, sym, ap, ◌∙◌, subst, append_assoc, append-nil, codes, Result, length, get_or, take, ◌<◌, ◌+◌}
 use Rattle.std.proofs.lemmas.List.{take_more}
 use Rattle.std.specs.Fmt.{decimal}
-use Rattle.archive_shape_writing.specs.Progress.{Progress}
-use Rattle.archive_shape_writing.specs.declared.error.Error.{Error}
-use Rattle.archive_shape_writing.specs.Writing.{Written, Failed, Appends}
-use Rattle.archive_shape_writing.proofs.Joined.{written_none, written_both, failed_first, failed_after, failed_among, appends_after}
+use Rattle.archive_shape_layout.specs.Progress.{Progress}
+use Rattle.archive_shape_layout.specs.declared.error.Error.{Error}
+use Rattle.archive_shape_layout.specs.Writing.{Written, Failed, Appends}
+use Rattle.archive_shape_layout.proofs.Joined.{written_none, written_both, failed_first, failed_after, failed_among, appends_after}
 use Rattle.cabinet_text_grammar.specs.Answering.{keys_are, spelled_keys, spelled_answer}
 
 pieces_split : {X : Type 0} (f : X → List ℕ) (xs ys : List X) → flat_map f (xs ++ ys) ≡ flat_map f xs ++ flat_map f ys

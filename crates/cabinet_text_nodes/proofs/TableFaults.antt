@@ -1,6 +1,5 @@
 -- The fault of a root and the nodes of its wholes.
 use Rattle.std.proofs.Common.{◌≡◌, ℕ, zero, suc, ◌≤◌, ◌<◌, ◌^◌, Bool, true, false, ◌&&◌, List, [], ◌∷◌, ◌++◌, length, refl, sym, ap, ◌∙◌, subst, arith, inl, inr, Option, Some, None, append_assoc, append-nil}
-use Rattle.std.specs.Bool.{Decides}
 use Rattle.std.specs.Prelude.{IsTrue, MatchBool, if◌then◌else◌}
 use Rattle.std.proofs.lemmas.Bool.{and_from}
 use Rattle.std.proofs.lemmas.Bool.Decides.{eqb_tells}
@@ -210,9 +209,6 @@ no_fault ns root h = ((h.1 tt).1, omega (arith, h.2), (h.1 tt).0, omega (arith, 
 pub is_document : (ns : List Node) (root : Node) → length ns < 2 ^ 64 → TableFault ns root None → wholes_of (node_tree (table_of ns) root) ≡ table_of ns → IsDocument (node_tree (table_of ns) root)
 is_document ns root few h order = ((h.1 tt).0, omega (arith, h.2), omega (arith, few, ap length order, length_after [] ns))
 
--- what is told of equal wholes, and of the order of the wholes
+-- what is told of equal wholes
 abbrev pub TellsRepeats : List Node → Bool → Type 0
 TellsRepeats ns b = AreLegal (wholes_with (table_of ns)) → most_depth (wholes_with (table_of ns)) ≤ 64 → MatchBool b (HasTwice (table_of ns)) (IsTable (table_of ns))
-
-abbrev pub TellsOrder : List Node → Node → Bool → Type 0
-TellsOrder ns root b = IsTable (table_of ns) → IsLegal (node_tree (table_of ns) root) → Decides b (wholes_of (node_tree (table_of ns) root) ≡ table_of ns)

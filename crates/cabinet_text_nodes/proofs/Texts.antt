@@ -3,10 +3,10 @@ use Rattle.std.proofs.Common.{◌≡◌, ℕ, zero, suc, ◌<◌, Bool, List, []
 use Rattle.std.specs.BTreeMap.{BTreeMap}
 use Rattle.std.specs.Prelude.{IsTrue}
 use Rattle.std.proofs.lemmas.Bool.{and_parts, ltb-true}
-use Rattle.archive_shape_writing.specs.Progress.{Progress}
-use Rattle.archive_shape_writing.specs.declared.error.Error.{Error}
-use Rattle.archive_shape_writing.specs.Writing.{Written, Failed, Appends}
-use Rattle.archive_shape_writing.proofs.Joined.{failed_first, appends_after}
+use Rattle.archive_shape_layout.specs.Progress.{Progress}
+use Rattle.archive_shape_layout.specs.declared.error.Error.{Error}
+use Rattle.archive_shape_layout.specs.Writing.{Written, Failed, Appends}
+use Rattle.archive_shape_layout.proofs.Joined.{failed_first, appends_after}
 use Rattle.cabinet_text_grammar.specs.Tree as tree
 use Rattle.cabinet_text_grammar.specs.Tree.{Tree}
 use Rattle.cabinet_text_grammar.specs.Item.{Item, key_item, whole_item, items, items_of, items_of_pairs}

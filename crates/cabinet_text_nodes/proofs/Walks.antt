@@ -1,6 +1,6 @@
 -- Walks that complete the wholes of a table in their order.
 use Rattle.std.proofs.Common.{◌≡◌, ◌≢◌, ℕ, zero, suc, ◌+◌, ◌<◌, ◌≤◌, false, List, [], ◌∷◌, ◌++◌, length, take, refl, sym, ap, ◌∙◌, subst, arith, inl, inr, Option, Some, None, Bor, append_assoc, Global, String, Box}
-use Rattle.std.specs.Prelude.{◌==◌, ◌||◌, slice_get, string_bytes, IsTrue}
+use Rattle.std.specs.Prelude.{◌==◌, slice_get, string_bytes, IsTrue}
 use Rattle.std.specs.Bool.{Decides}
 use Rattle.std.specs.List.{ItemBy}
 use Rattle.std.proofs.lemmas.Bool.{false≢true, cases_Bool}
@@ -11,7 +11,7 @@ use Rattle.cabinet_text_grammar.specs.Keys.{MapKind}
 use Rattle.cabinet_text_grammar.specs.Tree.{Tree, leaf, shared, nothing, just, list, map, whole, Trees, no_trees, more_trees, Pairs, no_pairs, more_pairs, depth, most_depth, IsLegal, AreLegal, ArePairs}
 use Rattle.cabinet_text_grammar.specs.Wholes.{same, has, numbered, with_tree, with_wholes, with_wholes_in, with_wholes_by, IsNumbered, AreNumbered, ArePairsNumbered, IsTable, wholes_of}
 use Rattle.cabinet_text_grammar.proofs.Equal.{itself}
-use Rattle.cabinet_text_grammar.proofs.Tables.{IsListed, listed_table, numbered_still, has_more, listed_numbered}
+use Rattle.cabinet_text_grammar.proofs.Tables.{IsListed, listed_table, has_more, listed_numbered}
 use Rattle.cabinet_text_nodes.specs.Order.{IsEnd, IsWalk, WalksNode, WalksNodes}
 use Rattle.cabinet_text_nodes.specs.View.{node_tree, node_trees, node_pairs, whole_of, table_after, table_of}
 use Rattle.cabinet_text_nodes.proofs.Views.{node_tree-some, node_tree-whole}

@@ -1,4 +1,5 @@
 pub mod Answers
+pub mod Calls
 pub mod Code
 pub mod Depths
 pub mod Faults
@@ -6,5 +7,4 @@ pub mod Kinds
 pub mod Lines
 pub mod Order
 pub mod Outcomes
-pub mod TextGrammar
 pub mod View

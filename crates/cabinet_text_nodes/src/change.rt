@@ -1,12 +1,9 @@
 //! Puts a leaf in the place of another.
-ghost use Rattle.std.specs.Prelude.{◌≡◌, ◌<◌, List, [], ◌∷◌, length, string_bytes, IfSome};
-ghost use Rattle.cabinet_text_grammar.specs.Keys.{MapKind, kept};
-ghost use Rattle.cabinet_text_grammar.specs.Tree as tree;
-ghost use Rattle.cabinet_text_grammar.specs.Tree.{Tree, IsLegal};
-ghost use Rattle.cabinet_text_grammar.specs.Wholes.{IsTable};
-ghost use Rattle.cabinet_text_nodes.specs.Answers.{Sets, place_by};
-ghost use Rattle.cabinet_text_nodes.specs.View.{node_tree, node_trees, node_pairs, table_of, lent_leaf, step_of, path_of};
-ghost use Rattle.cabinet_text_nodes.specs.declared.node.Node.TheVariants as node_of;
+ghost use Rattle.std.specs.Prelude.{◌≡◌, ◌<◌, [], length, string_bytes, IfSome};
+ghost use Rattle.cabinet_text_grammar.specs.Keys.{kept};
+ghost use Rattle.cabinet_text_nodes.specs.Calls.{PutsLeaf, SetsInNode, SetsInOption, SetsInList, SetsInMap, SetsInAnyMap, SetsNoneIn};
+ghost use Rattle.cabinet_text_nodes.specs.Answers.{place_by};
+ghost use Rattle.cabinet_text_nodes.specs.View.{node_pairs};
 
 use crate::answer::SetAnswer;
 use crate::leaf::LeafRef;
@@ -26,8 +23,7 @@ fn write_over(text: &mut String, new: &str)
 
 /// Puts a leaf in the place of a node.
 fn put_leaf(node: &mut Node, leaf: LeafRef<'_>) -> SetAnswer
-    ensures { (table : List Tree) → Sets (node_tree table node.old) [] (lent_leaf leaf.entry) result
-        (node_tree table node.new) }
+    ensures { PutsLeaf node.old leaf.entry result node.new }
 {
     match (node, leaf) {
         (Node::Bool(there), LeafRef::Bool(value)) => {
@@ -68,9 +64,7 @@ fn change_inside(
     leaf: LeafRef<'_>,
     wholes: &[Node],
 ) -> SetAnswer
-    ensures { IsTable (table_of wholes.now) → IsLegal (node_tree (table_of wholes.now) (node_of.Maybe content.old))
-        → Sets (node_tree (table_of wholes.now) (node_of.Maybe content.old)) (step_of step.now ∷ path_of rest.now)
-        (lent_leaf leaf.entry) result (node_tree (table_of wholes.now) (node_of.Maybe content.new)) }
+    ensures { SetsInOption wholes.now content.old step.now rest.now leaf.entry result content.new }
 {
     let Step::Inside = step else {
         return SetAnswer::Missing;
@@ -90,9 +84,7 @@ fn change_element(
     leaf: LeafRef<'_>,
     wholes: &[Node],
 ) -> SetAnswer
-    ensures { IsTable (table_of wholes.now) → IsLegal (tree.list (node_trees (table_of wholes.now) elements.old.items))
-        → Sets (tree.list (node_trees (table_of wholes.now) elements.old.items)) (step_of step.now ∷ path_of rest.now)
-        (lent_leaf leaf.entry) result (tree.list (node_trees (table_of wholes.now) elements.new.items)) }
+    ensures { SetsInList wholes.now elements.old.items step.now rest.now leaf.entry result elements.new.items }
 {
     let Step::Place(place) = step else {
         return SetAnswer::Missing;
@@ -112,11 +104,7 @@ fn change_value(
     leaf: LeafRef<'_>,
     wholes: &[Node],
 ) -> SetAnswer
-    ensures { (kind : MapKind) → IsTable (table_of wholes.now)
-        → IsLegal (tree.map kind (node_pairs (table_of wholes.now) map.old.entries))
-        → Sets (tree.map kind (node_pairs (table_of wholes.now) map.old.entries))
-        (step_of step.now ∷ path_of rest.now) (lent_leaf leaf.entry) result
-        (tree.map kind (node_pairs (table_of wholes.now) map.new.entries)) }
+    ensures { SetsInAnyMap wholes.now map.old.entries step.now rest.now leaf.entry result map.new.entries }
 {
     let Step::Key(key) = step else {
         return SetAnswer::Missing;
@@ -136,9 +124,7 @@ fn change_kept_value(
     leaf: LeafRef<'_>,
     wholes: &[Node],
 ) -> SetAnswer
-    ensures { IsTable (table_of wholes.now) → IsLegal (tree.map kept (node_pairs (table_of wholes.now) pairs.old.items))
-        → Sets (tree.map kept (node_pairs (table_of wholes.now) pairs.old.items)) (step_of step.now ∷ path_of rest.now)
-        (lent_leaf leaf.entry) result (tree.map kept (node_pairs (table_of wholes.now) pairs.new.items)) }
+    ensures { SetsInMap kept wholes.now pairs.old.items step.now rest.now leaf.entry result pairs.new.items }
 {
     let Step::Key(key) = step else {
         return SetAnswer::Missing;
@@ -151,10 +137,7 @@ fn change_kept_value(
 
 /// Returns the outcome of setting a leaf at a path that leads through a whole, where nothing is set.
 fn refuse_in_whole(number: u64, step: &Step, rest: &[Step], wholes: &[Node]) -> SetAnswer
-    ensures { IsTable (table_of wholes.now) → IsLegal (node_tree (table_of wholes.now) (node_of.Whole number))
-        → (l : tree.Leaf) → Sets (node_tree (table_of wholes.now) (node_of.Whole number))
-        (step_of step.now ∷ path_of rest.now) l result
-        (node_tree (table_of wholes.now) (node_of.Whole number)) }
+    ensures { SetsNoneIn wholes.now number step.now rest.now result }
 {
     let Step::Inside = step else {
         return SetAnswer::Missing;
@@ -173,9 +156,7 @@ pub(crate) fn change_at(
     leaf: LeafRef<'_>,
     wholes: &[Node],
 ) -> SetAnswer
-    ensures { IsTable (table_of wholes.now) → IsLegal (node_tree (table_of wholes.now) node.old)
-        → Sets (node_tree (table_of wholes.now) node.old) (path_of path.now) (lent_leaf leaf.entry) result
-        (node_tree (table_of wholes.now) node.new) }
+    ensures { SetsInNode wholes.now node.old path.now leaf.entry result node.new }
 {
     let Some((step, rest)) = path.split_first() else {
         return put_leaf(node, leaf);

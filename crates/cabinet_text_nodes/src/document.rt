@@ -3,8 +3,7 @@ ghost use Rattle.std.specs.Prelude.{◌≡◌, [], IfOk, IfErr};
 ghost use Rattle.cabinet_text_grammar.specs.Wholes.{wholes_of, IsDocument};
 ghost use Rattle.cabinet_text_grammar.specs.Answering.{answer, change};
 ghost use Rattle.cabinet_text_grammar.specs.Line.{set};
-ghost use Rattle.cabinet_text_grammar.specs.Path as grammar;
-ghost use Rattle.std.specs.Option.{option_map};
+ghost use Rattle.cabinet_text_nodes.specs.Calls.{FindsNode, HasWholes};
 ghost use Rattle.cabinet_text_nodes.specs.Faults.{IsRefusedFor, IsRefusedTable};
 ghost use Rattle.cabinet_text_nodes.specs.Outcomes.{outcome_of};
 ghost use Rattle.cabinet_text_nodes.specs.View.{node_tree, table_of, entries_of, leaf_of, path_of};
@@ -97,7 +96,7 @@ impl Document {
     /// the order in which a walk first completes them.
     pub fn of_parts(wholes: Option<Vec<Node>>, root: Node) -> Document
         requires document { IsDocument (node_tree (table_of (entries_of wholes)) root) }
-        requires wholes { wholes_of (node_tree (table_of (entries_of wholes)) root) ≡ table_of (entries_of wholes) }
+        requires wholes { HasWholes (entries_of wholes) root }
         ensures { result ≡ node_tree (table_of (entries_of wholes)) root }
     {
         Document { wholes, root }
@@ -121,8 +120,7 @@ impl Document {
     /// Returns the node that a path leads to, if it leads to one. It allocates no memory. A step by the key of an
     /// ordered or a hashed map takes time in proportion to the logarithm of the map's length.
     pub fn node_at(&self, path: &[Step]) -> Option<&Node>
-        ensures { option_map (λ node. node_tree (wholes_of self.now) node.now) result
-            ≡ grammar.node_at self.now (path_of path.now) }
+        ensures { FindsNode (wholes_of self.now) self.now (path_of path.now) result }
     {
         node_at(self.wholes(), &self.root, path)
     }

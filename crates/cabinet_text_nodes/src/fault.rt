@@ -1,7 +1,5 @@
 //! Checks whether a node is the root of a document, or the tree of a whole.
-ghost use Rattle.std.specs.Prelude.{◌≡◌, ℕ, List, map};
-ghost use Rattle.cabinet_text_grammar.specs.Keys.{MapKind, kept};
-ghost use Rattle.cabinet_text_grammar.specs.Tree.{Tree};
+ghost use Rattle.std.specs.Prelude.{◌≡◌, map};
 ghost use Rattle.cabinet_text_nodes.specs.Faults.{worse_of, IsInside, NodeFault, NodeFaults};
 ghost use Rattle.cabinet_text_nodes.specs.declared.node.Node.TheVariants as node_of;
 

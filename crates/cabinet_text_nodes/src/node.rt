@@ -1,7 +1,8 @@
 //! The nodes of documents and their kinds.
-ghost use Rattle.std.specs.Prelude.{◌≡◌, ◌≢◌, List, MatchOption};
-ghost use Rattle.cabinet_text_grammar.specs.Tree.{Leaf, Tree, leaf};
-ghost use Rattle.cabinet_text_nodes.specs.View.{node_tree, lent_leaf};
+ghost use Rattle.std.specs.Prelude.{◌≡◌, List};
+ghost use Rattle.cabinet_text_grammar.specs.Tree.{Tree};
+ghost use Rattle.cabinet_text_nodes.specs.Calls.{GivesLeaf};
+ghost use Rattle.cabinet_text_nodes.specs.View.{node_tree};
 ghost use Rattle.cabinet_text_nodes.specs.Kinds.{kind_of};
 
 use crate::leaf::LeafRef;
@@ -62,8 +63,7 @@ impl Node {
 
     /// Returns the leaf that the node is, if it is one.
     pub fn as_leaf(&self) -> Option<LeafRef<'_>>
-        ensures { (table : List Tree) → MatchOption result ((l : Leaf) → node_tree table self.now ≢ leaf l)
-            (λ l. node_tree table self.now ≡ leaf (lent_leaf l)) }
+        ensures { GivesLeaf self.now result }
     {
         match self {
             Node::Bool(value) => Some(LeafRef::Bool(*value)),

@@ -1,10 +1,7 @@
 //! Checks whether the wholes of a table are those of a root, in their order.
-ghost use Rattle.std.specs.Prelude.{◌≡◌, map};
-ghost use Rattle.std.specs.Bool.{Decides};
-ghost use Rattle.cabinet_text_grammar.specs.Tree.{IsLegal};
-ghost use Rattle.cabinet_text_grammar.specs.Wholes.{wholes_of, IsTable};
+ghost use Rattle.std.specs.Prelude.{map};
+ghost use Rattle.cabinet_text_nodes.specs.Calls.{TellsOrder};
 ghost use Rattle.cabinet_text_nodes.specs.Order.{WalksNode, WalksNodes};
-ghost use Rattle.cabinet_text_nodes.specs.View.{node_tree, table_of};
 ghost use Rattle.cabinet_text_nodes.specs.declared.node.Node.TheVariants as node_of;
 
 use crate::node::Node;
@@ -95,8 +92,7 @@ pub fn walk_node(node: &Node, wholes: &[Node], next: u64) -> Option<u64>
 /// Returns whether the wholes of a root are those of `wholes`, each once and in the order in which a walk first completes
 /// them. It allocates no memory, and visits each node once.
 pub fn are_in_order(wholes: &[Node], root: &Node) -> bool
-    ensures { IsTable (table_of wholes.now) → IsLegal (node_tree (table_of wholes.now) root.now)
-        → Decides result (wholes_of (node_tree (table_of wholes.now) root.now) ≡ table_of wholes.now) }
+    ensures { TellsOrder wholes.now root.now result }
 {
     match walk_node(root, wholes, 0) {
         Some(complete) => complete == wholes.len() as u64,

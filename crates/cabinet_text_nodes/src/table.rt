@@ -1,9 +1,7 @@
 //! Checks whether a root and the nodes of its wholes are a document.
-ghost use Rattle.std.specs.Prelude.{◌≡◌, ◌<◌, ◌≤◌, length, IfOk, IfErr, MatchBool, MatchOption};
-ghost use Rattle.cabinet_text_grammar.specs.Tree.{AreLegal, most_depth};
-ghost use Rattle.cabinet_text_grammar.specs.Wholes.{wholes_of, IsDocument, IsTable};
-ghost use Rattle.cabinet_text_nodes.specs.Faults.{wholes_with, HasTwice, TableFault, IsRefusedTable};
-ghost use Rattle.cabinet_text_nodes.specs.View.{node_tree, table_of};
+ghost use Rattle.std.specs.Prelude.{◌<◌, length, IfOk, IfErr};
+ghost use Rattle.cabinet_text_nodes.specs.Calls.{FindsTwice, ChecksTable};
+ghost use Rattle.cabinet_text_nodes.specs.Faults.{TableFault};
 
 use crate::depth::depth_of;
 use crate::fault::{fault_of, worse};
@@ -11,7 +9,7 @@ use crate::node::Node;
 use crate::order::are_in_order;
 use crate::refusal::DocumentRefusal;
 use crate::writing::write_node;
-use archive_shape_writing::Error;
+use archive_shape_layout::Error;
 use cabinet_text_grammar::MAX_DEPTH;
 use std::alloc::{AllocError, Global};
 use std::collections::BTreeSet;
@@ -38,8 +36,7 @@ fn fault_of_table(
 /// Returns whether two of the nodes have the same tree. Equal trees have equal texts, which are looked up in a set: the
 /// time grows with the size of the texts and the logarithm of their number.
 fn repeats_whole(alloc: Global, wholes: &[Node]) -> Result<bool, Error>
-    ensures repeats { AreLegal (wholes_with (table_of wholes.now)) → most_depth (wholes_with (table_of wholes.now)) ≤ 64
-        → IfOk result (λ repeats. MatchBool repeats (HasTwice (table_of wholes.now)) (IsTable (table_of wholes.now))) }
+    ensures repeats { FindsTwice wholes.now result }
     ensures memory { IfErr result (λ _. 0 < length wholes.now) }
 {
     let mut texts = BTreeSet::new(alloc);
@@ -56,9 +53,7 @@ fn repeats_whole(alloc: Global, wholes: &[Node]) -> Result<bool, Error>
 
 /// Returns the reason for which a root and the nodes of its wholes are no document, if there is one.
 pub(crate) fn refusal_of(wholes: &Vec<Node>, root: &Node) -> Option<DocumentRefusal>
-    ensures { MatchOption result (IsDocument (node_tree (table_of wholes.now.items) root.now)
-        × (wholes_of (node_tree (table_of wholes.now.items) root.now) ≡ table_of wholes.now.items))
-        (IsRefusedTable wholes.now.items root.now) }
+    ensures { ChecksTable wholes.now.items root.now result }
 {
     let alloc = *wholes.allocator();
     match fault_of_table(alloc, wholes.as_slice(), root) {

@@ -1,10 +1,10 @@
+pub mod Calls
 pub mod Causes
 pub mod Heads
 pub mod Kept
 pub mod Lines
 pub mod Parts
 pub mod Reading
-pub mod TextGrammar
 pub mod Told
 pub mod View
 pub mod Wholes

@@ -15,7 +15,7 @@ use Rattle.cabinet_text_grammar.specs.declared.cause.Cause.{Cause}
 use Rattle.cabinet_text_grammar.specs.declared.cause.Cause.TheVariants.{RepeatedWhole, WholeOrder}
 use Rattle.cabinet_text_nodes.specs.Faults.{AreDepths}
 use Rattle.cabinet_text_nodes.specs.Order.{IsWalk}
-use Rattle.cabinet_text_nodes.specs.View.{table_of}
+use Rattle.cabinet_text_nodes.specs.View.{node_tree, table_of}
 use Rattle.cabinet_text_nodes.specs.declared.node.Node.{Node}
 use Rattle.cabinet_text_reading.specs.View.{frame_of, stack_of}
 use Rattle.cabinet_text_reading.specs.declared.stack.frame.Frame.{Frame}
@@ -25,9 +25,17 @@ use Rattle.cabinet_text_reading.specs.declared.wholes.Wholes.{Wholes}
 abbrev pub table_in : Wholes → List Tree
 table_in w = table_of w.entries.items
 
+-- the tree of a node, which may have those wholes
+abbrev pub tree_in : Wholes → Node → Tree
+tree_in w n = node_tree (table_in w) n
+
 -- what was read, where these containers are open
 abbrev pub reading_of : Wholes → List spec.Frame → Reading
 reading_of w fs = record { lacking = w.lacking; table = table_in w; stack = fs }
+
+-- the same by the code's containers, the innermost last
+abbrev pub reading_in : Wholes → List Frame → Reading
+reading_in w fs = reading_of w (stack_of (table_in w) fs)
 
 -- the depths and the texts of the trees of the wholes are known
 pub record AreKnown (w : Wholes) : Type 0 where

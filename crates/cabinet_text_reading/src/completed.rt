@@ -1,18 +1,9 @@
 //! What is asked of the line that completes a tree, before memory is taken for it.
-ghost use Rattle.std.specs.Prelude.{◌≡◌, ℕ, map, IfOk, IfErr};
-ghost use Rattle.std.specs.Bool.{Decides};
-ghost use Rattle.cabinet_text_grammar.specs.Due.{Admits};
-ghost use Rattle.cabinet_text_grammar.specs.Frame.{AreOpen};
-ghost use Rattle.cabinet_text_grammar.specs.Item.{Item};
-ghost use Rattle.cabinet_text_grammar.specs.Machine.{complete, step};
-ghost use Rattle.cabinet_text_grammar.specs.Reading.{due_at, IsNew};
-ghost use Rattle.cabinet_text_grammar.specs.Spelling.{spelled};
-ghost use Rattle.cabinet_text_grammar.specs.Tree.{Tree};
-ghost use Rattle.cabinet_text_grammar.specs.Wholes.{wholes_of, IsTable};
+ghost use Rattle.std.specs.Prelude.{map};
 ghost use Rattle.cabinet_text_nodes.specs.Order.{WalksNodes};
-ghost use Rattle.cabinet_text_nodes.specs.View.{table_of};
-ghost use Rattle.cabinet_text_reading.specs.View.{keyed_entries, stack_of};
-ghost use Rattle.cabinet_text_reading.specs.Wholes.{table_in, reading_of, IsAtLine, RefusesTree, number_of, WalksFrame, WalksStack, WalksRoot};
+ghost use Rattle.cabinet_text_reading.specs.Calls.Wholes.{TellsRootOrder, ChecksTree};
+ghost use Rattle.cabinet_text_reading.specs.View.{keyed_entries};
+ghost use Rattle.cabinet_text_reading.specs.Wholes.{WalksFrame, WalksStack, WalksRoot};
 
 use crate::stack::{Frame, Keyed};
 use crate::wholes::Wholes;
@@ -67,11 +58,7 @@ fn walk_root(stack: &[Frame<'_>], wholes: &[Node], number: Option<u64>) -> Optio
 /// Returns whether the wholes of a root are those of `wholes`, in their order. The root is that of the containers of
 /// `stack`, completed by a node: the whole of this number, or a node without wholes.
 fn completes_in_order(wholes: &[Node], stack: &[Frame<'_>], number: Option<u64>) -> bool
-    ensures { (i : Item) (t : Tree) → number ≡ number_of i
-        → step (table_of wholes.now) (stack_of (table_of wholes.now) stack.now) i ≡ complete t
-        → IsTable (table_of wholes.now)
-        → (around : ℕ) → AreOpen (table_of wholes.now) around (stack_of (table_of wholes.now) stack.now)
-        → Decides result (wholes_of t ≡ table_of wholes.now) }
+    ensures { TellsRootOrder wholes.now stack.now number result }
 {
     match walk_root(stack, wholes, number) {
         Some(complete) => complete == wholes.len() as u64,
@@ -87,12 +74,7 @@ pub(crate) fn check_tree(
     number: Option<u64>,
     lines: &[u8],
 ) -> Result<(), Cause>
-    ensures { (i : Item) (t : Tree) → number ≡ number_of i
-        → IsAtLine wholes.now (stack_of (table_in wholes.now) stack.now) (spelled i) lines.now
-        → Admits (due_at (reading_of wholes.now (stack_of (table_in wholes.now) stack.now))) i
-        → step (table_in wholes.now) (stack_of (table_in wholes.now) stack.now) i ≡ complete t
-        → IfOk result (λ _. IsNew wholes.now.lacking (table_in wholes.now) t)
-        × IfErr result (RefusesTree wholes.now.lacking (table_in wholes.now) t) }
+    ensures { ChecksTree wholes.now stack.now number lines.now result }
 {
     if wholes.lacking > 0 {
         if wholes.is_new(lines) {

@@ -1,18 +1,12 @@
 //! Reads heads of nodes from their lines.
-ghost use Rattle.std.specs.Prelude.{◌≡◌, ◌≢◌, ℕ, ◌≤◌, ◌++◌, List, true, IsUtf8, IfOk, IfErr, MatchOption, string_bytes};
+ghost use Rattle.std.specs.Prelude.{◌≡◌, ◌≢◌, ◌++◌, IsUtf8, IfOk, IfErr, string_bytes};
 ghost use Rattle.std.specs.Fmt.{decimal};
 ghost use Rattle.std.specs.Rc.{rc_str_bytes};
-ghost use Rattle.cabinet_text_grammar.specs.Item.{Item, none_item, some_item};
 ghost use Rattle.cabinet_text_grammar.specs.declared.cause.Cause.TheVariants.{OutOfMemory};
-ghost use Rattle.cabinet_text_grammar.specs.Due.{a_head, Admits};
 ghost use Rattle.cabinet_text_grammar.specs.Spelling.{escaped, spelled};
-ghost use Rattle.cabinet_text_grammar.specs.Fault.{HasCount, HasDueCause};
-ghost use Rattle.cabinet_text_grammar.specs.Tree.{Tree};
-ghost use Rattle.cabinet_text_grammar.specs.Wholes.{IsTable};
-ghost use Rattle.cabinet_text_nodes.specs.Faults.{AreDepths};
 ghost use Rattle.cabinet_text_nodes.specs.View.{item_of};
-ghost use Rattle.cabinet_text_reading.specs.Causes.{IsFirstOf};
-ghost use Rattle.cabinet_text_reading.specs.Heads.{IsTextItem, IsContainer, inner_depth, count_word, RefusesShared, RefusesText};
+ghost use Rattle.cabinet_text_reading.specs.Calls.Heads.{FindsCount, ReadsOption, AllowsHead, RefusesHead, LacksMemoryForText};
+ghost use Rattle.cabinet_text_reading.specs.Heads.{IsContainer, inner_depth, count_word, RefusesShared, RefusesText};
 
 use cabinet_text_bytes::{after_prefix, read_count, read_number, read_truth, try_unescape};
 use cabinet_text_grammar::{Cause, MAX_DEPTH};
@@ -63,8 +57,7 @@ fn read_shared(alloc: Global, argument: &[u8], texts: &mut SharedTexts) -> Resul
 
 /// Returns the container whose word a line begins with, and the bytes after the word.
 fn count_argument(line: &[u8]) -> Option<(Counted, &[u8])>
-    ensures { MatchOption result ((rest : List ℕ) → HasCount line.now rest
-        → ⊥) (λ found. line.now ≡ count_word found.0 ++ found.1.now) }
+    ensures { FindsCount line.now result }
 {
     if let Some(digits) = after_prefix(line, b"list ".as_slice()) {
         return Some((Counted::List, digits));
@@ -100,11 +93,8 @@ fn inner_depth(head: &Head, depths: &[usize]) -> Option<usize>
 fn within(head: Head, depth: usize, depths: &[usize]) -> Result<Head, Cause>
     requires { IsContainer (item_of head) }
     ensures same { IfOk result (λ inner. item_of inner ≡ item_of head) }
-    ensures head { (table : List Tree) → AreDepths table depths.now
-        → IfOk result (λ inner. Admits (a_head table depth) (item_of inner)) }
-    ensures fault { (table : List Tree) → AreDepths table depths.now → IsTable table
-        → IfErr result (IsFirstOf (HasDueCause (a_head table depth)
-        (Some (record { bytes = spelled (item_of head); ended = true })))) }
+    ensures head { AllowsHead depths.now depth result }
+    ensures fault { RefusesHead depths.now depth (spelled (item_of head)) result }
     ensures memory { IfErr result (λ cause. cause ≢ OutOfMemory) }
 {
     let Some(inner) = inner_depth(&head, depths) else {
@@ -138,12 +128,9 @@ fn read_counted(
     depths: &[usize],
 ) -> Result<Head, Cause>
     requires { IsUtf8 (count_word container ++ digits.now) }
-    ensures head { (table : List Tree) → AreDepths table depths.now
-        → IfOk result (λ head. Admits (a_head table depth) (item_of head)) }
+    ensures head { AllowsHead depths.now depth result }
     ensures line { IfOk result (λ head. count_word container ++ digits.now ≡ spelled (item_of head)) }
-    ensures fault { (table : List Tree) → AreDepths table depths.now → IsTable table
-        → IfErr result (IsFirstOf (HasDueCause (a_head table depth)
-        (Some (record { bytes = count_word container ++ digits.now; ended = true })))) }
+    ensures fault { RefusesHead depths.now depth (count_word container ++ digits.now) result }
     ensures memory { IfErr result (λ cause. cause ≢ OutOfMemory) }
 {
     let Some(count) = read_count(digits) else {
@@ -154,9 +141,7 @@ fn read_counted(
 
 /// Reads a line as the head of an option, `none` or `some`.
 fn read_option(line: &[u8]) -> Option<Head>
-    ensures { MatchOption result ((line.now ≢ spelled none_item)
-        × (line.now ≢ spelled some_item)) (λ head. IsContainer (item_of head)
-        × (line.now ≡ spelled (item_of head))) }
+    ensures { ReadsOption line.now result }
 {
     if line == b"none".as_slice() {
         return Some(Head::None);
@@ -175,13 +160,10 @@ pub(crate) fn read_head(
     depths: &[usize],
     texts: &mut SharedTexts,
 ) -> Result<Head, Cause>
-    ensures head { (table : List Tree) → AreDepths table depths.now
-        → IfOk result (λ head. Admits (a_head table depth) (item_of head)) }
+    ensures head { AllowsHead depths.now depth result }
     ensures line { IfOk result (λ head. line.now ≡ spelled (item_of head)) }
-    ensures fault { (table : List Tree) → AreDepths table depths.now → IsTable table
-        → IfErr result (IsFirstOf (HasDueCause (a_head table depth)
-        (Some (record { bytes = line.now; ended = true })))) }
-    ensures memory { IfErr result (λ cause. cause ≡ OutOfMemory → (i : Item) × IsTextItem i × (line.now ≡ spelled i)) }
+    ensures fault { RefusesHead depths.now depth line.now result }
+    ensures memory { IfErr result (LacksMemoryForText line.now) }
 {
     let bytes = line.as_bytes();
     if let Some(argument) = after_prefix(bytes, b"text '".as_slice()) {

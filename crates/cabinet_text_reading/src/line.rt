@@ -1,10 +1,9 @@
 //! Splits a text into lines, and finds the faults of its first line that do not depend on what is expected there.
-ghost use Rattle.std.specs.Prelude.{◌≡◌, ◌≢◌, ℕ, ◌<◌, ◌++◌, ◌∷◌, [], List, true, length, slice_get, slice_index, EachIndex, IfNone, IfSome, IfOk, IfErr, IsUtf8, MatchOption, codes};
-ghost use Rattle.cabinet_text_grammar.specs.Keys.{MapKind};
-ghost use Rattle.cabinet_text_grammar.specs.Due.{Due, a_key, nothing_more};
-ghost use Rattle.cabinet_text_grammar.specs.Fault.{pieces_of, HasDueCause, rank};
+ghost use Rattle.std.specs.Prelude.{◌≡◌, ◌≢◌, ℕ, ◌<◌, ◌++◌, ◌∷◌, [], List, length, slice_index, IfNone, IfSome, IfOk, IfErr, IsUtf8, codes};
+ghost use Rattle.cabinet_text_grammar.specs.Fault.{rank};
 ghost use Rattle.cabinet_text_bytes.specs.Words.{IsEscaped};
-ghost use Rattle.cabinet_text_reading.specs.Causes.{IsFirstOf};
+ghost use Rattle.cabinet_text_reading.specs.Calls.Lines.{HasNoNewline, SplitsLine, LacksLine, LacksDueLine, FindsAfter, IsNoKey};
+ghost use Rattle.cabinet_text_reading.specs.Causes.{a_line, next_piece};
 ghost use Rattle.cabinet_text_reading.specs.Lines.{IsLongest};
 
 use cabinet_text_bytes::{after_prefix, unescaped_len};
@@ -13,7 +12,7 @@ use std::marker::Model;
 
 /// Returns the index of the first newline.
 fn newline_at(text: &[u8]) -> Option<usize>
-    ensures none { IfNone result (EachIndex text.now (λ k. slice_index text.now k ≢ 10)) }
+    ensures none { IfNone result (HasNoNewline text.now) }
     ensures found { IfSome result (λ end. (end < length text.now) × (slice_index text.now end ≡ 10)) }
     ensures before { IfSome result (λ end. (k : ℕ) → k < end → slice_index text.now k ≢ 10) }
 {
@@ -22,9 +21,7 @@ fn newline_at(text: &[u8]) -> Option<usize>
 
 /// Returns the parts of a text before and after its first newline.
 fn split_line(text: &str) -> Option<(&str, &str)>
-    ensures { MatchOption result (EachIndex text.now (λ k. slice_index text.now k ≢ 10))
-        (λ parts. (text.now ≡ parts.0.now ++ 10 ∷ parts.1.now)
-        × EachIndex parts.0.now (λ k. slice_index parts.0.now k ≢ 10)) }
+    ensures { SplitsLine text.now result }
 {
     let end = newline_at(text.as_bytes())?;
     Some((&text[..end], &text[end + 1..]))
@@ -71,12 +68,10 @@ impl<'a> Lines<'a> {
     /// `None` if there are none.
     #[inline(always)]
     fn cut_line(self) -> Result<(&'a str, Lines<'a>), Option<Cause>>
-        ensures piece { IfOk result (λ next. slice_get (pieces_of self.entry) 0 ≡ Some
-            (record { bytes = next.0.now; ended = true })) }
+        ensures piece { IfOk result (λ next. next_piece self.entry ≡ a_line next.0.now) }
         ensures utf8 { IfOk result (λ next. IsUtf8 next.0.now) }
         ensures parts { IfOk result (λ next. self.entry ≡ next.0.now ++ 10 ∷ next.1) }
-        ensures end { IfErr result (λ fault. MatchOption fault (self.entry ≡ [])
-            (λ cause. (due : Due) → IsFirstOf (HasDueCause due (slice_get (pieces_of self.entry) 0)) cause)) }
+        ensures end { IfErr result (LacksLine self.entry) }
         ensures early { IfErr result (λ fault. IfSome fault (λ cause. rank cause < 3)) }
     {
         let Lines { rest, more } = self;
@@ -94,11 +89,9 @@ impl<'a> Lines<'a> {
 
     /// Returns the first line where a line is expected, and the rest after it.
     pub(crate) fn next_line(self) -> Result<(&'a str, Lines<'a>), Cause>
-        ensures piece { IfOk result (λ next. slice_get (pieces_of self.entry) 0 ≡ Some
-            (record { bytes = next.0.now; ended = true })) }
+        ensures piece { IfOk result (λ next. next_piece self.entry ≡ a_line next.0.now) }
         ensures parts { IfOk result (λ next. self.entry ≡ next.0.now ++ 10 ∷ next.1) }
-        ensures fault { IfErr result (λ cause. (due : Due) → due ≢ nothing_more
-            → IsFirstOf (HasDueCause due (slice_get (pieces_of self.entry) 0)) cause) }
+        ensures fault { IfErr result (LacksDueLine self.entry) }
         ensures early { IfErr result (λ cause. rank cause < 3) }
     {
         match self.cut_line() {
@@ -110,8 +103,7 @@ impl<'a> Lines<'a> {
 
     /// Returns the fault of what is left after a document, if anything is left.
     pub(crate) fn fault_after(self) -> Option<Cause>
-        ensures { MatchOption result (self.entry ≡ [])
-            (IsFirstOf (HasDueCause nothing_more (slice_get (pieces_of self.entry) 0))) }
+        ensures { FindsAfter self.entry result }
     {
         match self.cut_line() {
             Ok(_) => Some(Cause::LineAfterEnd),
@@ -124,8 +116,7 @@ impl<'a> Lines<'a> {
 pub(crate) fn read_key_argument(line: &str) -> Result<&[u8], Cause>
     ensures argument { IfOk result (λ argument. IsEscaped argument.now) }
     ensures line { IfOk result (λ argument. line.now ≡ codes "'" ++ argument.now) }
-    ensures fault { IfErr result (λ cause. (kind : MapKind) (keys : List (List ℕ))
-        → IsFirstOf (HasDueCause (a_key kind keys) (Some (record { bytes = line.now; ended = true }))) cause) }
+    ensures fault { IfErr result (IsNoKey line.now) }
 {
     let bytes = line.as_bytes();
     let Some(argument) = after_prefix(bytes, b"'".as_slice()) else {

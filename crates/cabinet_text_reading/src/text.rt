@@ -1,20 +1,15 @@
 //! Reads texts of documents: the result is the document with that text, or the first faulty line.
-ghost use Rattle.std.specs.Prelude.{◌≡◌, ◌≢◌, ℕ, ◌<◌, ◌≤◌, ◌^◌, ◌+◌, ◌++◌, ◌∷◌, [], List, Some, true, length, take, drop, slice_get, codes, IfOk, IfErr};
+ghost use Rattle.std.specs.Prelude.{◌≡◌, ◌<◌, ◌≤◌, ◌+◌, ◌++◌, ◌∷◌, [], length, take, drop, IfOk, IfErr};
 ghost use Rattle.cabinet_text_grammar.specs.Wholes.{wholes_of, IsDocument};
-ghost use Rattle.cabinet_text_grammar.specs.Item.{Item, document_items, wholes_item};
-ghost use Rattle.cabinet_text_grammar.specs.Reading.{due_at, reading, onward};
-ghost use Rattle.cabinet_text_grammar.specs.Spelling.{spelled, text_of};
-ghost use Rattle.cabinet_text_grammar.specs.Fault.{pieces_of, HasDueCause, rank, IsFirstCause, FirstFault};
-ghost use Rattle.cabinet_text_grammar.specs.Due as grammar_due;
+ghost use Rattle.cabinet_text_grammar.specs.Item.{document_items};
+ghost use Rattle.cabinet_text_grammar.specs.Spelling.{text_of};
+ghost use Rattle.cabinet_text_grammar.specs.Fault.{rank};
 ghost use Rattle.cabinet_text_grammar.specs.Due.{nothing_more};
-ghost use Rattle.cabinet_text_grammar.specs.declared.cause.Cause.TheVariants.{OutOfMemory};
-ghost use Rattle.cabinet_text_grammar.specs.Machine.{going};
-ghost use Rattle.cabinet_text_grammar.specs.Steps.{TakesLine};
-ghost use Rattle.cabinet_text_nodes.specs.View.{node_tree, item_of};
-ghost use Rattle.cabinet_text_reading.specs.View.{stack_of, inside_map, open_at, state_of};
-ghost use Rattle.cabinet_text_reading.specs.Causes.{IsFirstOf};
-ghost use Rattle.cabinet_text_reading.specs.Heads.{IsTextItem};
-ghost use Rattle.cabinet_text_reading.specs.Wholes.{table_in, reading_of, number_of, AreKnown, IsAtLine};
+ghost use Rattle.cabinet_text_nodes.specs.View.{item_of};
+ghost use Rattle.cabinet_text_reading.specs.Calls.Lines.{LacksDueLine};
+ghost use Rattle.cabinet_text_reading.specs.Calls.Text.{TellsTextFault, TellsHeadFault, TakesHeadLine, RefusesHeadLine, TakesKeyLine, RefusesKeyLine, TakesDueLine, RefusesDueLine, BeginsWithoutCount, BeginsWithCount, text_and_rest, IsFirstFaultOf};
+ghost use Rattle.cabinet_text_reading.specs.Causes.{a_line, next_piece, IsFaultAt};
+ghost use Rattle.cabinet_text_reading.specs.Wholes.{table_in, tree_in, reading_of, number_of, AreKnown};
 
 use crate::completed::check_tree;
 use crate::head::read_head;
@@ -48,12 +43,7 @@ fn whole_number(head: &Head) -> Option<u64>
 /// Returns the fault of the line of a text for which memory was refused: where the line completes a tree, what is asked
 /// of the tree comes first.
 fn fault_of_text(wholes: &Wholes<'_>, stack: &[Frame<'_>], lines: &[u8]) -> Cause
-    ensures { (i : Item) → IsTextItem i
-        → IsAtLine wholes.now (stack_of (table_in wholes.now) stack.now) (spelled i) lines.now
-        → HasDueCause (due_at (reading_of wholes.now (stack_of (table_in wholes.now) stack.now)))
-        (Some (record { bytes = spelled i; ended = true })) OutOfMemory
-        → IsFirstCause (reading (reading_of wholes.now (stack_of (table_in wholes.now) stack.now)))
-        (Some (record { bytes = spelled i; ended = true })) result }
+    ensures { TellsTextFault wholes.now stack.now lines.now result }
 {
     if !all_lack_one(stack) {
         return Cause::OutOfMemory;
@@ -66,13 +56,7 @@ fn fault_of_text(wholes: &Wholes<'_>, stack: &[Frame<'_>], lines: &[u8]) -> Caus
 
 /// Returns the fault of the line of a head that was not read for this cause.
 fn fault_of_head(cause: Cause, wholes: &Wholes<'_>, stack: &[Frame<'_>], lines: &[u8]) -> Cause
-    ensures { (line : List ℕ)
-        → IsAtLine wholes.now (stack_of (table_in wholes.now) stack.now) line lines.now
-        → IsFirstOf (HasDueCause (due_at (reading_of wholes.now (stack_of (table_in wholes.now) stack.now)))
-        (Some (record { bytes = line; ended = true }))) cause
-        → (cause ≡ OutOfMemory → (i : Item) × IsTextItem i × (line ≡ spelled i))
-        → IsFirstCause (reading (reading_of wholes.now (stack_of (table_in wholes.now) stack.now)))
-        (Some (record { bytes = line; ended = true })) result }
+    ensures { TellsHeadFault cause wholes.now stack.now lines.now result }
 {
     match cause {
         Cause::OutOfMemory => fault_of_text(wholes, stack, lines),
@@ -89,12 +73,8 @@ fn take_head_line<'a>(
     texts: &mut SharedTexts,
     stack: &mut Vec<Frame<'a>>,
 ) -> Result<Next<'a>, Cause>
-    ensures taken { IsAtLine wholes.now (stack_of (table_in wholes.now) stack.old.items) line.now lines.now
-        → IfOk result (λ next. TakesLine (reading_of wholes.now (stack_of (table_in wholes.now) stack.old.items)) line.now
-        (onward wholes.now.lacking (table_in wholes.now) (state_of (table_in wholes.now) next stack.new.items))) }
-    ensures fault { IsAtLine wholes.now (stack_of (table_in wholes.now) stack.old.items) line.now lines.now
-        → IfErr result (IsFirstCause (reading (reading_of wholes.now (stack_of (table_in wholes.now) stack.old.items)))
-        (Some (record { bytes = line.now; ended = true }))) }
+    ensures taken { TakesHeadLine wholes.now stack.old line.now lines.now result stack.new }
+    ensures fault { RefusesHeadLine wholes.now stack.old line.now lines.now result }
 {
     let depth = stack.len() + wholes.around();
     let head = match read_head(alloc, line, depth, wholes.depths.as_slice(), texts) {
@@ -118,10 +98,8 @@ fn take_key_line<'a>(
     wholes: &Wholes<'_>,
     stack: &mut Vec<Frame<'a>>,
 ) -> Result<(), Cause>
-    ensures taken { IfOk result (λ _. TakesLine (reading_of wholes.now (inside_map (table_in wholes.now) map.entry stack.old.items)) line.now
-        (onward wholes.now.lacking (table_in wholes.now) (going (stack_of (table_in wholes.now) stack.new.items)))) }
-    ensures fault { IfErr result (IsFirstCause (reading (reading_of wholes.now (inside_map (table_in wholes.now) map.entry stack.old.items)))
-        (Some (record { bytes = line.now; ended = true }))) }
+    ensures taken { IfOk result (λ _. TakesKeyLine wholes.now map.entry stack.old line.now stack.new) }
+    ensures fault { IfErr result (RefusesKeyLine wholes.now map.entry stack.old line.now) }
 {
     let argument = read_key_argument(line)?;
     take_key(alloc, argument, map, stack)
@@ -137,12 +115,8 @@ fn take_line<'a>(
     texts: &mut SharedTexts,
     stack: &mut Vec<Frame<'a>>,
 ) -> Result<Next<'a>, Cause>
-    ensures taken { IsAtLine wholes.now (open_at (table_in wholes.now) due.entry stack.old.items) line.now lines.now
-        → IfOk result (λ next. TakesLine (reading_of wholes.now (open_at (table_in wholes.now) due.entry stack.old.items)) line.now
-        (onward wholes.now.lacking (table_in wholes.now) (state_of (table_in wholes.now) next stack.new.items))) }
-    ensures fault { IsAtLine wholes.now (open_at (table_in wholes.now) due.entry stack.old.items) line.now lines.now
-        → IfErr result (IsFirstCause (reading (reading_of wholes.now (open_at (table_in wholes.now) due.entry stack.old.items)))
-        (Some (record { bytes = line.now; ended = true }))) }
+    ensures taken { TakesDueLine wholes.now due.entry stack.old line.now lines.now result stack.new }
+    ensures fault { RefusesDueLine wholes.now due.entry stack.old line.now lines.now result }
 {
     match due {
         Due::Head => take_head_line(alloc, line, lines, wholes, texts, stack),
@@ -155,12 +129,10 @@ fn take_line<'a>(
 
 /// Returns the next line, whose number is `line`, and the rest after it.
 fn next_line<'a>(rest: Lines<'a>, line: u64) -> Result<(&'a str, Lines<'a>), TextRefusal>
-    ensures piece { IfOk result (λ next. slice_get (pieces_of rest.entry) 0 ≡ Some
-        (record { bytes = next.0.now; ended = true })) }
+    ensures piece { IfOk result (λ next. next_piece rest.entry ≡ a_line next.0.now) }
     ensures parts { IfOk result (λ next. rest.entry ≡ next.0.now ++ 10 ∷ next.1) }
     ensures line { IfErr result (λ refusal. refusal.line ≡ line) }
-    ensures fault { IfErr result (λ refusal. (due : grammar_due.Due) → due ≢ nothing_more
-        → IsFirstOf (HasDueCause due (slice_get (pieces_of rest.entry) 0)) refusal.cause) }
+    ensures fault { IfErr result (λ refusal. LacksDueLine rest.entry refusal.cause) }
     ensures early { IfErr result (λ refusal. rank refusal.cause < 3) }
 {
     match rest.next_line() {
@@ -171,9 +143,9 @@ fn next_line<'a>(rest: Lines<'a>, line: u64) -> Result<(&'a str, Lines<'a>), Tex
 
 /// Reads the line of the number of wholes, if the text begins with one, and returns the number and the rest of the text.
 fn read_header(text: &[u8]) -> Result<(u64, Lines<'_>), TextRefusal>
-    ensures none { IfOk result (λ read. read.0 ≡ 0 → (read.1 ≡ text.now) × ((rest : List ℕ) → text.now ≢ codes "wholes " ++ rest)) }
-    ensures some { IfOk result (λ read. 0 < read.0 → text.now ≡ spelled (wholes_item read.0) ++ 10 ∷ read.1) }
-    ensures fault { IfErr result (λ refusal. FirstFault text.now refusal.line refusal.cause) }
+    ensures none { IfOk result (λ read. BeginsWithoutCount text.now read.0 read.1) }
+    ensures some { IfOk result (λ read. BeginsWithCount text.now read.0 read.1) }
+    ensures fault { IfErr result (IsFirstFaultOf text.now) }
 {
     let lines = Lines::new(text);
     if after_prefix(text, b"wholes ".as_slice()).is_none() {
@@ -197,8 +169,7 @@ fn read_header(text: &[u8]) -> Result<(u64, Lines<'_>), TextRefusal>
 fn check_end(rest: Lines<'_>, line: u64) -> Result<(), TextRefusal>
     ensures end { IfOk result (λ _. rest.entry ≡ []) }
     ensures line { IfErr result (λ refusal. refusal.line ≡ line) }
-    ensures fault { IfErr result (λ refusal. IsFirstOf (HasDueCause nothing_more
-        (slice_get (pieces_of rest.entry) 0)) refusal.cause) }
+    ensures fault { IfErr result (λ refusal. IsFaultAt nothing_more (next_piece rest.entry) refusal.cause) }
 {
     match rest.fault_after() {
         None => Ok(()),
@@ -214,13 +185,11 @@ fn end_document(
     rest: Lines<'_>,
     line: u64,
 ) -> Result<Document, TextRefusal>
-    requires document { IsDocument (node_tree (table_in wholes) root) }
-    requires wholes { wholes_of (node_tree (table_in wholes) root) ≡ table_in wholes }
-    requires line { line ≡ length (document_items (node_tree (table_in wholes) root)) + 1 }
-    ensures document { IfOk result (λ document. text_of
-        (node_tree (table_in wholes.entry) root) ++ rest.entry ≡ text_of document) }
-    ensures fault { IfErr result (λ refusal. FirstFault
-        (text_of (node_tree (table_in wholes.entry) root) ++ rest.entry) refusal.line refusal.cause) }
+    requires document { IsDocument (tree_in wholes root) }
+    requires wholes { wholes_of (tree_in wholes root) ≡ table_in wholes }
+    requires line { line ≡ length (document_items (tree_in wholes root)) + 1 }
+    ensures document { IfOk result (λ document. text_and_rest wholes.entry root rest.entry ≡ text_of document) }
+    ensures fault { IfErr result (IsFirstFaultOf (text_and_rest wholes.entry root rest.entry)) }
 {
     let document = Document::of_parts(some_nodes(wholes.entries), root);
     check_end(rest, line).and(Ok(document))
@@ -246,16 +215,16 @@ fn read_trees<'a>(
     texts: &mut SharedTexts,
     stack: &mut Vec<Frame<'a>>,
 ) -> Result<(Node, Lines<'a>, u64), TextRefusal>
-    requires none { count ≡ 0 → (rest ≡ text.now) × ((more : List ℕ) → text.now ≢ codes "wholes " ++ more) }
-    requires some { 0 < count → text.now ≡ spelled (wholes_item count) ++ 10 ∷ rest }
+    requires none { BeginsWithoutCount text.now count rest }
+    requires some { BeginsWithCount text.now count rest }
     requires reading { reading_of wholes.old [] ≡ record { lacking = count; table = []; stack = [] } }
     requires known { AreKnown wholes.old }
     requires stack { stack.old.items ≡ [] }
-    ensures document { IfOk result (λ read. IsDocument (node_tree (table_in wholes.new) read.0)) }
-    ensures wholes { IfOk result (λ read. wholes_of (node_tree (table_in wholes.new) read.0) ≡ table_in wholes.new) }
-    ensures line { IfOk result (λ read. read.2 ≡ length (document_items (node_tree (table_in wholes.new) read.0)) + 1) }
-    ensures text { IfOk result (λ read. text.now ≡ text_of (node_tree (table_in wholes.new) read.0) ++ read.1) }
-    ensures fault { IfErr result (λ refusal. FirstFault text.now refusal.line refusal.cause) }
+    ensures document { IfOk result (λ read. IsDocument (tree_in wholes.new read.0)) }
+    ensures wholes { IfOk result (λ read. wholes_of (tree_in wholes.new read.0) ≡ table_in wholes.new) }
+    ensures line { IfOk result (λ read. read.2 ≡ length (document_items (tree_in wholes.new read.0)) + 1) }
+    ensures text { IfOk result (λ read. text.now ≡ text_and_rest wholes.new read.0 read.1) }
+    ensures fault { IfErr result (IsFirstFaultOf text.now) }
 {
     let mut rest = rest;
     let mut next = Next::Due(Due::Head);
@@ -294,7 +263,7 @@ fn read_trees<'a>(
 /// comparisons of keys, of shared texts and of wholes. No memory is reserved by a count in the text.
 pub fn read_text(alloc: Global, text: &[u8]) -> Result<Document, TextRefusal>
     ensures document { IfOk result (λ document. text.now ≡ text_of document) }
-    ensures fault { IfErr result (λ refusal. FirstFault text.now refusal.line refusal.cause) }
+    ensures fault { IfErr result (IsFirstFaultOf text.now) }
 {
     let (count, rest) = read_header(text)?;
     let mut wholes = Wholes::new(alloc, count);

@@ -1,11 +1,9 @@
 //! The wholes of a text of which some lines were read.
-ghost use Rattle.std.specs.Prelude.{◌≡◌, ℕ, ◌-◌, ◌<◌, ◌≤◌, ◌^◌, not, List, [], ◌∷◌, length, IfOk};
-ghost use Rattle.cabinet_text_grammar.specs.Completing.{text_in};
+ghost use Rattle.std.specs.Prelude.{◌≡◌, ◌<◌, [], IfOk};
 ghost use Rattle.cabinet_text_grammar.specs.Reading.{around};
-ghost use Rattle.cabinet_text_grammar.specs.Tree.{Tree, depth, IsLegal};
-ghost use Rattle.cabinet_text_grammar.specs.Wholes.{has, IsNumbered, IsTable};
-ghost use Rattle.cabinet_text_nodes.specs.View.{node_tree, entries_of};
-ghost use Rattle.cabinet_text_reading.specs.Wholes.{table_in, reading_of, AreKnown};
+ghost use Rattle.cabinet_text_nodes.specs.View.{entries_of};
+ghost use Rattle.cabinet_text_reading.specs.Calls.Wholes.{TellsNew, AddsWhole, KnowsAdded};
+ghost use Rattle.cabinet_text_reading.specs.Wholes.{reading_of, AreKnown};
 
 use cabinet_text_nodes::{Node, depth_of};
 use std::alloc::{AllocError, Global};
@@ -51,9 +49,7 @@ impl<'a> Wholes<'a> {
 
     /// Returns whether no whole that is complete has the tree of these lines.
     pub(crate) fn is_new(&self, lines: &[u8]) -> bool
-        ensures { (t : Tree) → AreKnown self.now → length (table_in self.now) < 2 ^ 64 → IsTable (table_in self.now)
-            → IsLegal t → IsNumbered (table_in self.now) t → lines.now ≡ text_in (table_in self.now) t
-            → result ≡ not (has (table_in self.now) t) }
+        ensures { TellsNew self.now lines.now result }
     {
         !self.texts.contains(lines)
     }
@@ -61,15 +57,8 @@ impl<'a> Wholes<'a> {
     /// Adds the tree of the next whole. `lines` are its lines.
     pub(crate) fn add(&mut self, tree: Node, lines: &'a [u8]) -> Result<(), AllocError>
         requires { 0 < self.old.lacking }
-        ensures reading { IfOk result (λ _. reading_of self.new [] ≡ record {
-          lacking = self.old.lacking - 1;
-          table = node_tree (table_in self.old) tree ∷ table_in self.old;
-          stack = [];
-        }) }
-        ensures known { AreKnown self.old → IsLegal (node_tree (table_in self.old) tree)
-            → depth (node_tree (table_in self.old) tree) ≤ 64
-            → lines.now ≡ text_in (table_in self.old) (node_tree (table_in self.old) tree)
-            → IfOk result (λ _. AreKnown self.new) }
+        ensures reading { IfOk result (λ _. AddsWhole self.old tree self.new) }
+        ensures known { KnowsAdded self.old tree lines.now result self.new }
     {
         let depth = depth_of(&tree, self.depths.as_slice());
         self.entries.push(tree)?;

@@ -4,7 +4,7 @@
 mod sections;
 mod session;
 
-use archive_shape_writing::Error;
+use archive_shape_layout::Error;
 use sections::{Section, first_section};
 use session::answer_section;
 use std::alloc::Global;

@@ -1,6 +1,6 @@
 //! Answers the lines of a section from its plain document.
 use crate::sections::{Section, first_line};
-use archive_shape_writing::{Error, Writer, write_three_pieces};
+use archive_shape_layout::{Error, Writer, write_three_pieces};
 use cabinet_text::{Cause, Document, Line, LineRefusal, TextRefusal, answer, read_line, read_text};
 use cabinet_text_bytes::Decimal;
 use cabinet_text_nodes::{write_bad, write_outcome};

@@ -1,6 +1,6 @@
 //! Tests of texts with wholes, and of the answers about a document that has one twice.
 
-use archive_shape_writing::Error;
+use archive_shape_layout::Error;
 use cabinet_text::answer;
 use cabinet_text_grammar::Cause;
 use cabinet_text_nodes::{Document, Line, write_outcome};

@@ -1,7 +1,7 @@
 //! Sums over the entries of archived maps, and over what is found in them, called from outside.
 ghost use Rattle.std.specs.Prelude.{All};
 ghost use Rattle.archive_forms_values.specs.Parts.{HasValue};
-ghost use Rattle.archive_btree_walking.specs.Refs.{IsThere};
+ghost use Rattle.archive_btree_maps.specs.Refs.{IsThere};
 ghost use Rattle.archive_bench.specs.BtreeTexts.{text_shape, number_shape, map_shape, known, map_known};
 
 use archive_btree_maps::{ArchivedBTreeMap, Range};

@@ -1,8 +1,8 @@
 //! Sums over all elements of archived vectors, called from outside.
 ghost use Rattle.std.specs.Prelude.{⊤, false};
 ghost use Rattle.std.specs.Int.{w32};
-ghost use Rattle.archive_shape.specs.ShapeLayout.Shape.Shape.{number, option, vector, text};
-ghost use Rattle.archive_forms_values.specs.FormsLaws.Views.{natural_of};
+ghost use Rattle.archive_shape_layout.specs.Shape.Shape.{number, option, vector, text};
+ghost use Rattle.archive_forms_laws.specs.Views.{natural_of};
 ghost use Rattle.archive_forms_values.specs.Parts.{HasValue};
 ghost use Rattle.archive_bench.specs.FormsSums.{IsOf, number_or_zero as number_in, weight as weight_of, sum_of};
 

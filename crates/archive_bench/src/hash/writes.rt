@@ -1,9 +1,9 @@
 //! Writes of tables of maps, called from outside.
 ghost use Rattle.std.specs.Prelude.{◌-◌, ◌^◌, ◌<◌};
-ghost use Rattle.archive_forms_values.specs.FormsLaws.Serializing.{HasState};
+ghost use Rattle.archive_forms_laws.specs.Serializing.{HasState};
 
 use archive_core_serializing::Serializer;
-use archive_forms_borrowed::SerializeEntry;
+use archive_forms_writing::SerializeEntry;
 use archive_hash::{OwnedHashMap, serialize_map_scan_each};
 use archive_hash_probing::{Group1, Group8, Group16, Scan};
 use archive_shape::{Error, Positional, Registry, Writer};

@@ -1,16 +1,12 @@
 //! Equality of maps: they have the same number of pairs, and the pairs are equal one by one.
-ghost use Rattle.std.specs.Prelude.{◌≡◌, List};
-ghost use Rattle.std.specs.Cmp.Lexicographic.{pointwise};
-ghost use Rattle.archive_shape_layout.specs.Shape.Shape.{tree};
 ghost use Rattle.archive_shape_layout.specs.Value.{Value};
-ghost use Rattle.archive_shape.specs.Key.{HeldAt};
 ghost use Rattle.archive_forms_laws.proofs.Forms.{equivalences};
-ghost use Rattle.archive_forms_values.specs.Parts.{both};
-ghost use Rattle.archive_btree_maps.specs.MapComparing.{pair_equality, map_equality, IsPairAt, HasPairs, ArePairsAt};
-ghost use Rattle.archive_btree_walking.specs.Maps.{HasMap};
+ghost use Rattle.archive_btree_maps.specs.MapComparing.{map_equality, IsPairAt, HasPairs};
+ghost use Rattle.archive_btree_maps.specs.Maps.{HasMap};
+ghost use Rattle.archive_btree_maps.specs.Calls.Comparing.{EqualsMap, EqualsPair, EqualsPairs};
 
 use crate::map::ArchivedBTreeMap;
-use archive_btree_walking::Iter;
+use crate::walking::Iter;
 use archive_forms_comparing::ArchivedEq;
 use archive_shape::Ref;
 
@@ -21,9 +17,7 @@ fn equal_pair<K: ArchivedEq, V: ArchivedEq>(
 ) -> bool
     requires this { (p : Value) × IsPairAt K.shape V.shape K.knows V.knows this.now p }
     requires other { (p : Value) × IsPairAt K.shape V.shape K.knows V.knows other.now p }
-    ensures { (p q : Value) → IsPairAt K.shape V.shape K.knows V.knows this.now p
-        → IsPairAt K.shape V.shape K.knows V.knows other.now q
-        → result ≡ pair_equality K.equal V.equal p q }
+    ensures { EqualsPair K.Portable V.Portable K.equal V.equal this.now other.now result }
 {
     K::eq(&this.0, &other.0) && V::eq(&this.1, &other.1)
 }
@@ -35,9 +29,7 @@ fn equal_entries<K: ArchivedEq, V: ArchivedEq>(
 ) -> bool
     requires these { HasPairs K.shape V.shape K.knows V.knows these }
     requires others { HasPairs K.shape V.shape K.knows V.knows others }
-    ensures { (ps qs : List Value) → ArePairsAt K.shape V.shape K.knows V.knows these.entry ps
-        → ArePairsAt K.shape V.shape K.knows V.knows others.entry qs
-        → result ≡ pointwise (pair_equality K.equal V.equal) ps qs }
+    ensures { EqualsPairs K.Portable V.Portable K.equal V.equal these.entry others.entry result }
 {
     if these.len() != others.len() {
         return false;
@@ -58,9 +50,7 @@ pub fn eq_map<K: ArchivedEq, V: ArchivedEq, const E: usize, const F: usize>(
 ) -> bool
     requires this { HasMap E K.shape V.shape K.knows V.knows this.now }
     requires other { HasMap F K.shape V.shape K.knows V.knows other.now }
-    ensures { (v w : Value) → HeldAt (tree E K.shape V.shape) (both K.knows V.knows) this.now.bytes.now
-        this.now.pos v
-        → HeldAt (tree F K.shape V.shape) (both K.knows V.knows) other.now.bytes.now other.now.pos w → result ≡ map_equality K.equal V.equal v w }
+    ensures { EqualsMap K.Portable V.Portable E F K.equal V.equal this.now other.now result }
 {
     equal_entries(
         ArchivedBTreeMap::iter(*this),

@@ -1,14 +1,13 @@
 //! Hashing maps pair by pair, the key and then the value.
-ghost use Rattle.std.specs.Prelude.{◌≡◌, List, drop};
+ghost use Rattle.std.specs.Prelude.{drop};
 ghost use Rattle.std.proofs.Common.{ap};
-ghost use Rattle.std.specs.List.{fold, flat_map};
-ghost use Rattle.archive_shape_layout.specs.Value.{Value};
 ghost use Rattle.archive_forms_laws.proofs.Forms.{alike};
-ghost use Rattle.archive_btree_maps.specs.MapComparing.{HasPairs, ArePairsAt};
+ghost use Rattle.archive_btree_maps.specs.MapComparing.{HasPairs};
 ghost use Rattle.archive_btree_maps.specs.Hashing.{pair_hashed, map_hashed};
+ghost use Rattle.archive_btree_maps.specs.Calls.Comparing.{FeedsPairs};
 
 use crate::map::ArchivedBTreeMap;
-use archive_btree_walking::Iter;
+use crate::walking::Iter;
 use archive_forms_comparing::ArchivedHash;
 use archive_shape::Ref;
 use std::hash::Hasher;
@@ -16,8 +15,7 @@ use std::hash::Hasher;
 /// Hashes each key and then its value.
 fn hash_entries<K: ArchivedHash, V: ArchivedHash, H: Hasher>(entries: Iter<'_, K, V>, state: &mut H)
     requires { HasPairs K.shape V.shape K.knows V.knows entries }
-    ensures { (ps : List Value) → ArePairsAt K.shape V.shape K.knows V.knows entries.entry ps
-        → state.new ≡ fold H.write state.old (flat_map (pair_hashed K.hashed V.hashed) ps) }
+    ensures { FeedsPairs K.Portable V.Portable K.hashed V.hashed H.write entries.entry state.old state.new }
 {
     for (key, value) in entries {
         K::hash(&key, state);

@@ -1,45 +1,40 @@
 //! Look-ups of keys in archived B-tree maps.
-ghost use Rattle.std.specs.Prelude.{◌≡◌, ◌-◌, ◌^◌, ◌<◌, IsTrue, Option, Some, IfSome, min, All, Contains};
-ghost use Rattle.std.specs.Option.{option_map, is_some};
-ghost use Rattle.std.specs.declared.cmp.Ordering.{Ordering};
-ghost use Rattle.archive_shape_layout.specs.Shape.Shape.{tree};
-ghost use Rattle.archive_btree_nodes.specs.BtreeLayout.Tree.{Tree, items};
-ghost use Rattle.archive_btree_nodes.specs.BtreeLayout.Descent.{descend, met};
-ghost use Rattle.archive_btree_nodes.specs.BtreeLayout.Reading.{Place};
-ghost use Rattle.archive_btree_nodes.specs.Descents.{DescendsTo};
+ghost use Rattle.std.specs.Prelude.{◌≡◌, Some, IfSome};
 ghost use Rattle.archive_forms_values.specs.Parts.{HasValue};
-ghost use Rattle.archive_btree_walking.specs.Maps.{IsMap, HasMap};
-ghost use Rattle.archive_btree_walking.specs.Refs.{IsThere, key_at, value_at, entry_at};
-ghost use Rattle.archive_btree_walking.specs.Lookups.{QueryOrders, QuerySays, IsEqualKey, CallsEqual, Finds, LooksUp, HasKey, CallsOrder};
+ghost use Rattle.archive_btree_maps.specs.Maps.{HasMap};
+ghost use Rattle.archive_btree_maps.specs.Refs.{IsThere, ref_at};
+ghost use Rattle.archive_btree_maps.specs.Lookups.{HasKey};
+ghost use Rattle.archive_btree_maps.specs.Calls.Lookups.{AnswersEntry, AnswersEntryBy, AnswersValue, AnswersValueCounted, AnswersWhether, FindsEntry, FindsEntryBy, FindsValue, FindsWhether, LooksUpEntry, LooksUpValue, LooksUpWhether, MayCompareKeys};
 
 use crate::map::ArchivedBTreeMap;
-use archive_btree_walking::{search_key, search_map};
-use archive_shape::{ArchivedKey, Portable, Ref};
+use crate::walking::{search_key, search_map};
+use archive_shape::{ArchivedKey, Portable, Ref, Steps};
 use std::cmp::Ordering;
 
 impl<K, V: Portable, const E: usize> ArchivedBTreeMap<K, V, E> {
-    /// Returns the value of a key, if the map has the key, and the number of keys that the search compared. The count
-    /// stops at `usize::MAX`.
+    /// Returns the value of a key, if the map has the key, and the number of keys that the search compared, which stops
+    /// at `usize::MAX`. The count of strides in hash tables is 0.
     pub fn get_counted<'a, Q>(
         this: Ref<'a, ArchivedBTreeMap<K, V, E>>,
         query: &Q,
-    ) -> (Option<Ref<'a, V>>, usize)
+    ) -> (Option<Ref<'a, V>>, Steps)
     where
         K: ArchivedKey<Q>,
         requires has { HasMap E K.shape V.shape K.knows V.knows this }
         ensures there { IfSome result.0 (λ r. HasValue V.shape V.knows r.bytes.now r.pos) }
-        ensures found { (t : Tree Place) → IsMap E K.shape V.shape this.entry t
-            → Finds (value_at this.entry.bytes) (IsEqualKey K.key_of K.order this.entry.bytes.now query.now) (items t) result.0 }
-        ensures looks_up { (t : Tree Place) → IsMap E K.shape V.shape this.entry t
-            → LooksUp (value_at this.entry.bytes) K.key_of K.order this.entry.bytes.now query.now t result.0 }
-        ensures answers { (t : Tree Place) (order : Place → Ordering)
-            → IsMap E K.shape V.shape this.entry t
-            → QueryOrders K.key_of K.order this.entry.bytes.now query.now order (items t)
-            → (result.0 ≡ option_map (value_at this.entry.bytes) (descend order t)) × (result.1 ≡ min (met order t) (2 ^ 64 - 1)) }
+        ensures found { FindsValue E K.shape V.shape K.key_of K.order this.entry query.now result.0 }
+        ensures looks_up { LooksUpValue E K.shape V.shape K.key_of K.order this.entry query.now result.0 }
+        ensures answers { AnswersValueCounted E K.shape V.shape K.key_of K.order this.entry query.now result }
+        ensures searches { result.1.strides ≡ 0 }
     {
-        match search_key::<Q, K, V, E>(this.bytes, this.pos, query) {
-            (Some(entry), count) => (Some(Ref::new(this.bytes, entry.value)), count),
-            (None, count) => (None, count),
+        let (found, comparisons) = search_key::<Q, K, V, E>(this.bytes, this.pos, query);
+        let steps = Steps {
+            comparisons,
+            strides: 0,
+        };
+        match found {
+            Some(entry) => (Some(Ref::new(this.bytes, entry.value)), steps),
+            None => (None, steps),
         }
     }
 
@@ -49,14 +44,9 @@ impl<K, V: Portable, const E: usize> ArchivedBTreeMap<K, V, E> {
         K: ArchivedKey<Q>,
         requires has { HasMap E K.shape V.shape K.knows V.knows this }
         ensures there { IfSome result (λ r. HasValue V.shape V.knows r.bytes.now r.pos) }
-        ensures found { (t : Tree Place) → IsMap E K.shape V.shape this.entry t
-            → Finds (value_at this.entry.bytes) (IsEqualKey K.key_of K.order this.entry.bytes.now query.now) (items t) result }
-        ensures looks_up { (t : Tree Place) → IsMap E K.shape V.shape this.entry t
-            → LooksUp (value_at this.entry.bytes) K.key_of K.order this.entry.bytes.now query.now t result }
-        ensures answers { (t : Tree Place) (order : Place → Ordering)
-            → IsMap E K.shape V.shape this.entry t
-            → QueryOrders K.key_of K.order this.entry.bytes.now query.now order (items t)
-            → result ≡ option_map (value_at this.entry.bytes) (descend order t) }
+        ensures found { FindsValue E K.shape V.shape K.key_of K.order this.entry query.now result }
+        ensures looks_up { LooksUpValue E K.shape V.shape K.key_of K.order this.entry query.now result }
+        ensures answers { AnswersValue E K.shape V.shape K.key_of K.order this.entry query.now result }
     {
         ArchivedBTreeMap::get_counted(this, query).0
     }
@@ -70,14 +60,9 @@ impl<K, V: Portable, const E: usize> ArchivedBTreeMap<K, V, E> {
         K: ArchivedKey<Q>,
         requires has { HasMap E K.shape V.shape K.knows V.knows this }
         ensures there { IfSome result (IsThere K.shape V.shape K.knows V.knows) }
-        ensures found { (t : Tree Place) → IsMap E K.shape V.shape this.entry t
-            → Finds (entry_at this.entry.bytes) (IsEqualKey K.key_of K.order this.entry.bytes.now query.now) (items t) result }
-        ensures looks_up { (t : Tree Place) → IsMap E K.shape V.shape this.entry t
-            → LooksUp (entry_at this.entry.bytes) K.key_of K.order this.entry.bytes.now query.now t result }
-        ensures answers { (t : Tree Place) (order : Place → Ordering)
-            → IsMap E K.shape V.shape this.entry t
-            → QueryOrders K.key_of K.order this.entry.bytes.now query.now order (items t)
-            → result ≡ option_map (entry_at this.entry.bytes) (descend order t) }
+        ensures found { FindsEntry E K.shape V.shape K.key_of K.order this.entry query.now result }
+        ensures looks_up { LooksUpEntry E K.shape V.shape K.key_of K.order this.entry query.now result }
+        ensures answers { AnswersEntry E K.shape V.shape K.key_of K.order this.entry query.now result }
     {
         match search_key::<Q, K, V, E>(this.bytes, this.pos, query).0 {
             Some(entry) => Some((
@@ -93,14 +78,9 @@ impl<K, V: Portable, const E: usize> ArchivedBTreeMap<K, V, E> {
     where
         K: ArchivedKey<Q>,
         requires has { HasMap E K.shape V.shape K.knows V.knows this }
-        ensures found { (t : Tree Place) → IsMap E K.shape V.shape this.entry t
-            → IsTrue result → (e : Place) × Contains (items t) e × IsEqualKey K.key_of K.order this.entry.bytes.now query.now e }
-        ensures looks_up { (t : Tree Place) → IsMap E K.shape V.shape this.entry t
-            → (entry : Option Place) × DescendsTo (QuerySays K.key_of K.order this.entry.bytes.now query.now) t entry × (result ≡ is_some entry) }
-        ensures answers { (t : Tree Place) (order : Place → Ordering)
-            → IsMap E K.shape V.shape this.entry t
-            → QueryOrders K.key_of K.order this.entry.bytes.now query.now order (items t)
-            → result ≡ is_some (descend order t) }
+        ensures found { FindsWhether E K.shape V.shape K.key_of K.order this.entry query.now result }
+        ensures looks_up { LooksUpWhether E K.shape V.shape K.key_of K.order this.entry query.now result }
+        ensures answers { AnswersWhether E K.shape V.shape K.key_of K.order this.entry query.now result }
     {
         search_key::<Q, K, V, E>(this.bytes, this.pos, query)
             .0
@@ -114,14 +94,9 @@ impl<K, V: Portable, const E: usize> ArchivedBTreeMap<K, V, E> {
         requires has { HasMap E K.shape V.shape K.knows V.knows this }
         requires present { HasKey K.key_of K.order this.bytes.now E K.shape V.shape this.pos query.now }
         ensures there { HasValue V.shape V.knows result.bytes.now result.pos }
-        ensures found { (t : Tree Place) → IsMap E K.shape V.shape this.entry t
-            → Finds (value_at this.entry.bytes) (IsEqualKey K.key_of K.order this.entry.bytes.now query.now) (items t) (Some result) }
-        ensures looks_up { (t : Tree Place) → IsMap E K.shape V.shape this.entry t
-            → LooksUp (value_at this.entry.bytes) K.key_of K.order this.entry.bytes.now query.now t (Some result) }
-        ensures answers { (t : Tree Place) (order : Place → Ordering)
-            → IsMap E K.shape V.shape this.entry t
-            → QueryOrders K.key_of K.order this.entry.bytes.now query.now order (items t)
-            → Some result ≡ option_map (value_at this.entry.bytes) (descend order t) }
+        ensures found { FindsValue E K.shape V.shape K.key_of K.order this.entry query.now (Some result) }
+        ensures looks_up { LooksUpValue E K.shape V.shape K.key_of K.order this.entry query.now (Some result) }
+        ensures answers { AnswersValue E K.shape V.shape K.key_of K.order this.entry query.now (Some result) }
     {
         ArchivedBTreeMap::get(this, query).unwrap()
     }
@@ -136,21 +111,15 @@ impl<K: Portable, V: Portable, const E: usize> ArchivedBTreeMap<K, V, E> {
         compare: &F,
     ) -> Option<(Ref<'a, K>, Ref<'a, V>)>
         requires has { HasMap E K.shape V.shape K.knows V.knows this }
-        requires callable { (t : Tree Place) → IsMap E K.shape V.shape this t
-            → All (λ e. HasValue K.shape K.knows this.bytes.now e.key → F.pre compare.now query (key_at this.bytes e)) (items t) }
+        requires callable { MayCompareKeys E K.Portable V.shape F.pre compare.now this query }
         ensures there { IfSome result (IsThere K.shape V.shape K.knows V.knows) }
-        ensures found { (t : Tree Place) → IsMap E K.shape V.shape this.entry t
-            → Finds (entry_at this.entry.bytes) (CallsEqual F.post compare.now query.entry this.entry.bytes) (items t) result }
-        ensures answers { (t : Tree Place) (order : Place → Ordering)
-            → IsMap E K.shape V.shape this.entry t
-            → CallsOrder F.post compare.now query.entry this.entry.bytes order (items t)
-            → result ≡ option_map (entry_at this.entry.bytes) (descend order t) }
+        ensures found { FindsEntryBy E K.shape V.shape F.post compare.now this.entry query.entry result }
+        ensures answers { AnswersEntryBy E K.shape V.shape F.post compare.now this.entry query.entry result }
     {
         let bytes = this.bytes;
         let compare_at = |at: usize| -> Ordering
-            requires { F.pre compare.now query (key_at bytes (record { key = at; value = 0 })) }
-            ensures { F.post compare.entry.now query.entry
-                (key_at bytes.entry (record { key = at; value = 0 })) result }
+            requires { F.pre compare.now query (ref_at bytes at) }
+            ensures { F.post compare.entry.now query.entry (ref_at bytes.entry at) result }
         { compare(query, Ref::new(bytes, at)) };
         match search_map::<K, V, _, E>(bytes, this.pos, &compare_at).0 {
             Some(entry) => Some((Ref::new(bytes, entry.key), Ref::new(bytes, entry.value))),

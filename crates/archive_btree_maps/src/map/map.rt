@@ -2,18 +2,17 @@
 ghost use Rattle.std.specs.Prelude.{◌≡◌, ◌+◌, ◌≤◌, ◌++◌, ◌↔◌, [], length, IsTrue};
 ghost use Rattle.std.proofs.Common.{refl, lit<, lit≤};
 ghost use Rattle.archive_shape_layout.specs.Shape.Shape.{tree};
-ghost use Rattle.archive_shape_layout.specs.Content.{Names};
-ghost use Rattle.archive_shape_layout.specs.Content.Part.{at};
 ghost use Rattle.archive_shape.specs.Kept.{IsWithin};
-ghost use Rattle.archive_shape.specs.Checks.{Checks, Moves};
+ghost use Rattle.archive_shape.specs.Checks.{Moves};
 ghost use Rattle.archive_shape_layout.proofs.Naming.{first_types, other_types};
-ghost use Rattle.archive_btree_nodes.specs.BtreeLayout.Tree.{Tree, items};
-ghost use Rattle.archive_btree_nodes.specs.BtreeLayout.Reading.{Place};
+ghost use Rattle.archive_btree_layout.specs.Tree.{Tree, items};
+ghost use Rattle.archive_btree_layout.specs.Reading.{Place};
 ghost use Rattle.archive_forms_values.specs.Parts.{both};
-ghost use Rattle.archive_btree_walking.specs.Maps.{IsMap, HasMap};
+ghost use Rattle.archive_btree_maps.specs.Maps.{IsMap, HasMap};
+ghost use Rattle.archive_btree_maps.specs.Calls.Checking.{VerifiesMap};
 
-use archive_btree_nodes::check_btree_each;
-use archive_btree_walking::count_at;
+use crate::nodes::check_btree_each;
+use crate::walking::count_at;
 use archive_shape::{ArchiveContext, CheckBytes, Error, NoUndef, Portable, Ref, Shape};
 use std::alloc::{AllocError, Global};
 use std::marker::PhantomData;
@@ -87,8 +86,7 @@ impl<K, V, const E: usize> ArchivedBTreeMap<K, V, E> {
         requires fits { this.pos + 8 ≤ length this.bytes.now }
         requires range { IsWithin (C.kept context.old) (length this.bytes.now) }
         ensures moves { Moves (C.kept context.old) result (C.kept context.new) }
-        ensures exact { (names : Names) → K.knows names → V.knows names
-            → Checks names this.entry.bytes.now (at this.entry.pos (tree E K.shape V.shape)) (C.kept context.old) result (C.kept context.new) }
+        ensures exact { VerifiesMap C.kept E K.Portable V.Portable this.entry context.old result context.new }
     {
         let bytes = this.bytes;
         check_btree_each::<K, V, C, _, _, E>(

@@ -1,16 +1,12 @@
 //! Equality of a map and a map of std.
-ghost use Rattle.std.specs.Prelude.{◌≡◌, ◌↔◌, ℕ, IsTrue, All};
-ghost use Rattle.std.specs.List.{AllZip};
-ghost use Rattle.std.specs.Ordering.{is_eq};
-ghost use Rattle.archive_btree_nodes.specs.BtreeLayout.Tree.{Tree, items};
-ghost use Rattle.archive_btree_nodes.specs.BtreeLayout.Reading.{Place};
-ghost use Rattle.archive_forms_values.specs.Parts.{HasValue};
-ghost use Rattle.archive_btree_walking.specs.Maps.{IsMap, HasMap};
-ghost use Rattle.archive_btree_walking.specs.Refs.{IsThere, value_at};
-ghost use Rattle.archive_btree_maps.specs.StdMaps.{IsSameEntry, IsSamePair, IsPairSame, IsPairSameAt, AreSame, MayCallValue};
+ghost use Rattle.std.specs.Prelude.{All};
+ghost use Rattle.archive_btree_maps.specs.Maps.{HasMap};
+ghost use Rattle.archive_btree_maps.specs.Refs.{IsThere};
+ghost use Rattle.archive_btree_maps.specs.StdMaps.{MayCallValue};
+ghost use Rattle.archive_btree_maps.specs.Calls.StdMaps.{ComparesMap, ComparesPair, ComparesPairs, EqualsStdMap, EqualsStdPairs, MayCompareValues, TellsSame};
 
 use crate::map::ArchivedBTreeMap;
-use archive_btree_walking::Iter;
+use crate::walking::Iter;
 use archive_shape::{ArchivedKey, Portable, Ref};
 use std::alloc::Allocator;
 use std::collections::BTreeMap;
@@ -23,8 +19,7 @@ fn same_pair<Q, W, K: ArchivedKey<Q>, V: Portable, F: Fn(Ref<'_, V>, &W) -> bool
 ) -> bool
     requires there { IsThere K.shape V.shape K.knows V.knows this.now }
     requires callable { F.pre equal.now this.now.1 other.1 }
-    ensures { IsPairSame K.key_of K.order (F.post equal.now) this.now
-        (other.entry.0.now, other.entry.1.now) result }
+    ensures { ComparesPair K.key_of K.order F.post equal.now this.now other.entry result }
 {
     K::same(&this.0, other.0) && equal(this.1, other.1)
 }
@@ -40,8 +35,7 @@ fn same_entries<
 >(these: Iter<'_, K, V>, others: &BTreeMap<Q, W, A>, equal: &F) -> bool
     requires there { All (IsThere K.shape V.shape K.knows V.knows) these }
     requires callable { All (λ e. MayCallValue (F.pre equal.now) others.now.entries e.1) these }
-    ensures { AreSame (IsPairSame K.key_of K.order (F.post equal.now)) these.entry others.now.entries
-        result }
+    ensures { ComparesPairs K.key_of K.order F.post equal.now these.entry others.now.entries result }
 {
     if these.len() != others.len() {
         return false;
@@ -60,12 +54,11 @@ fn same_keyed<Q: Ord, W, K: ArchivedKey<Q>, V: ArchivedKey<W>, A: Allocator>(
     others: &BTreeMap<Q, W, A>,
 ) -> bool
     requires { All (IsThere K.shape V.shape K.knows V.knows) these }
-    ensures { IsTrue result ↔ AllZip (IsSamePair K.key_of K.order V.key_of V.order) these.entry others.now.entries }
+    ensures { EqualsStdPairs K.key_of K.order V.key_of V.order these.entry others.now.entries result }
 {
     let equal = |value: Ref<'_, V>, other: &W| -> bool
         requires { V.is_key value.bytes.now value.pos }
-        ensures { (key : W) × V.key_of value.entry.bytes.now value.entry.pos key
-            × (result ≡ is_eq (V.order key other.now)) }
+        ensures { TellsSame V.key_of V.order value.entry other.now result }
     { V::same(&value, other) };
     same_entries(these, others, &equal)
 }
@@ -82,10 +75,8 @@ pub fn eq_btree_map_with<
     const E: usize,
 >(this: &Ref<'_, ArchivedBTreeMap<K, V, E>>, other: &BTreeMap<Q, W, A>, equal: &F) -> bool
     requires has { HasMap E K.shape V.shape K.knows V.knows this.now }
-    requires callable { (t : Tree Place) → IsMap E K.shape V.shape this.now t
-        → All (λ e. HasValue V.shape V.knows this.now.bytes.now e.value → MayCallValue (F.pre equal.now) other.now.entries (value_at this.now.bytes e)) (items t) }
-    ensures { (t : Tree Place) → IsMap E K.shape V.shape this.now t
-        → AreSame (λ e. IsPairSameAt K.key_of K.order (F.post equal.now) this.now.bytes.now e.key (value_at this.now.bytes e)) (items t) other.now.entries result }
+    requires callable { MayCompareValues E K.shape V.Portable F.pre equal.now this.now other.now.entries }
+    ensures { ComparesMap K.key_of K.order F.post equal.now E K.shape V.shape this.now other.now.entries result }
 {
     same_entries(ArchivedBTreeMap::iter(*this), other, equal)
 }
@@ -97,8 +88,7 @@ pub fn eq_btree_map<Q: Ord, W, K: ArchivedKey<Q>, V: ArchivedKey<W>, A: Allocato
     other: &BTreeMap<Q, W, A>,
 ) -> bool
     requires { HasMap E K.shape V.shape K.knows V.knows this.now }
-    ensures { (t : Tree Place) → IsMap E K.shape V.shape this.now t
-        → IsTrue result ↔ AllZip (IsSameEntry K.key_of K.order V.key_of V.order this.now.bytes.now) (items t) other.now.entries }
+    ensures { EqualsStdMap K.key_of K.order V.key_of V.order E K.shape V.shape this.now other.now.entries result }
 {
     same_keyed(ArchivedBTreeMap::iter(*this), other)
 }

@@ -1,14 +1,10 @@
 //! Equality of sets: they have the same number of keys, and the keys are equal one by one.
-ghost use Rattle.std.specs.Prelude.{◌≡◌, ◌↔◌, IsTrue};
-ghost use Rattle.std.specs.List.{AllZip};
 ghost use Rattle.std.specs.Cmp.{on_equiv};
 ghost use Rattle.std.specs.Cmp.Lexicographic.{lists_equiv};
-ghost use Rattle.archive_btree_nodes.specs.BtreeLayout.Tree.{Tree, items};
-ghost use Rattle.archive_btree_nodes.specs.BtreeLayout.Reading.{Place};
-ghost use Rattle.archive_btree_walking.specs.Lookups.{IsEqualKey};
-ghost use Rattle.archive_btree_maps.specs.Sets.{IsSet, HasSet};
+ghost use Rattle.archive_btree_maps.specs.Sets.{HasSet};
 ghost use Rattle.archive_btree_maps.specs.Keys.{keys_of};
 ghost use Rattle.archive_btree_maps.specs.SetComparing.{set_equality};
+ghost use Rattle.archive_btree_maps.specs.Calls.StdMaps.{EqualsStdSet};
 
 use crate::map::eq_map;
 use crate::set::ArchivedBTreeSet;
@@ -34,8 +30,7 @@ pub fn eq_btree_set<Q: Ord, K: ArchivedKey<Q>, A: Allocator, const E: usize>(
     other: &BTreeSet<Q, A>,
 ) -> bool
     requires has { HasSet E K.shape K.knows this.now.bytes.now this.now.pos }
-    ensures { (t : Tree Place) → IsSet E K.shape this.now t
-        → IsTrue result ↔ AllZip (λ e query. IsEqualKey K.key_of K.order this.now.bytes.now query e) (items t) other.now.keys }
+    ensures { EqualsStdSet E K.shape K.key_of K.order this.now other.now.keys result }
 {
     let keys = ArchivedBTreeSet::iter(*this);
     if keys.len() != other.len() {

@@ -1,14 +1,8 @@
 //! Look-ups of keys in archived B-tree sets.
-ghost use Rattle.std.specs.Prelude.{◌≡◌, IsTrue, IfSome, Contains};
-ghost use Rattle.std.specs.Option.{option_map, is_some};
-ghost use Rattle.std.specs.declared.cmp.Ordering.{Ordering};
-ghost use Rattle.archive_btree_nodes.specs.BtreeLayout.Tree.{Tree, items};
-ghost use Rattle.archive_btree_nodes.specs.BtreeLayout.Descent.{descend};
-ghost use Rattle.archive_btree_nodes.specs.BtreeLayout.Reading.{Place};
+ghost use Rattle.std.specs.Prelude.{IfSome};
 ghost use Rattle.archive_forms_values.specs.Parts.{HasValue};
-ghost use Rattle.archive_btree_walking.specs.Refs.{key_at};
-ghost use Rattle.archive_btree_walking.specs.Lookups.{QueryOrders, IsEqualKey, Finds};
-ghost use Rattle.archive_btree_maps.specs.Sets.{IsSet, HasSet};
+ghost use Rattle.archive_btree_maps.specs.Sets.{HasSet, unit_shape};
+ghost use Rattle.archive_btree_maps.specs.Calls.Lookups.{AnswersKey, AnswersWhether, FindsKey, FindsWhether};
 
 use crate::map::ArchivedBTreeMap;
 use crate::set::ArchivedBTreeSet;
@@ -21,11 +15,8 @@ impl<K, const E: usize> ArchivedBTreeSet<K, E> {
     where
         K: ArchivedKey<Q>,
         requires has { HasSet E K.shape K.knows this.bytes.now this.pos }
-        ensures found { (t : Tree Place) → IsSet E K.shape this.entry t
-            → IsTrue result → (e : Place) × Contains (items t) e × IsEqualKey K.key_of K.order this.entry.bytes.now query.now e }
-        ensures answers { (t : Tree Place) (order : Place → Ordering) → IsSet E K.shape this.entry t
-            → QueryOrders K.key_of K.order this.entry.bytes.now query.now order (items t)
-            → result ≡ is_some (descend order t) }
+        ensures found { FindsWhether E K.shape unit_shape K.key_of K.order this.entry query.now result }
+        ensures answers { AnswersWhether E K.shape unit_shape K.key_of K.order this.entry query.now result }
     {
         ArchivedBTreeMap::contains_key(as_map(this), query)
     }
@@ -36,11 +27,8 @@ impl<K, const E: usize> ArchivedBTreeSet<K, E> {
         K: ArchivedKey<Q>,
         requires has { HasSet E K.shape K.knows this.bytes.now this.pos }
         ensures there { IfSome result (λ r. HasValue K.shape K.knows r.bytes.now r.pos) }
-        ensures found { (t : Tree Place) → IsSet E K.shape this.entry t
-            → Finds (key_at this.entry.bytes) (IsEqualKey K.key_of K.order this.entry.bytes.now query.now) (items t) result }
-        ensures answers { (t : Tree Place) (order : Place → Ordering) → IsSet E K.shape this.entry t
-            → QueryOrders K.key_of K.order this.entry.bytes.now query.now order (items t)
-            → result ≡ option_map (key_at this.entry.bytes) (descend order t) }
+        ensures found { FindsKey E K.shape unit_shape K.key_of K.order this.entry query.now result }
+        ensures answers { AnswersKey E K.shape unit_shape K.key_of K.order this.entry query.now result }
     {
         match ArchivedBTreeMap::get_key_value(as_map(this), query) {
             Some((key, _)) => Some(key),

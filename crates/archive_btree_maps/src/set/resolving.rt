@@ -1,14 +1,11 @@
 //! The write of the own bytes of a set, once the position of the root of its search tree is known.
-ghost use Rattle.std.specs.Prelude.{◌≡◌, ◌+◌, ◌^◌, ◌<◌, ◌≤◌, ◌++◌, ◌⊎◌, length, MatchResult};
-ghost use Rattle.std.specs.Int.{w32, to_le_bytes};
-ghost use Rattle.archive_shape.specs.Bytes.{overwrite};
-ghost use Rattle.archive_shape_writing.specs.declared.error.Error.TheVariants.{LengthTooLarge};
-ghost use Rattle.archive_forms_laws.specs.Links.{link_bytes, LinkFits, LinkRefused};
+ghost use Rattle.std.specs.Prelude.{◌+◌, ◌≤◌, length};
+ghost use Rattle.archive_btree_maps.specs.Calls.Resolving.{ResolvesTree};
 
 use crate::map::ArchivedBTreeMap;
 use crate::set::ArchivedBTreeSet;
 use archive_shape::{Place, Portable};
-use archive_shape_writing::Error;
+use archive_shape_layout::Error;
 
 /// The position of the root of a set's search tree, if the set has keys: the resolver of the map of its keys to `()`.
 pub use crate::map::BTreeMapResolver as BTreeSetResolver;
@@ -26,11 +23,7 @@ impl<K: Portable, const E: usize> ArchivedBTreeSet<K, E> {
         out: Place<'_, ArchivedBTreeSet<K, E>>,
     ) -> Result<(), Error>
         requires { out.start + 8 ≤ length out.out.now }
-        ensures { MatchResult result
-            (λ _. (LinkFits resolver.pos out.entry.pos × (len < 2 ^ 32))
-            × (out.exit.0.now ≡ overwrite out.entry.out.now out.entry.start (link_bytes resolver.pos out.entry.pos ++ to_le_bytes w32 len)))
-            (λ e. (((e ≡ LengthTooLarge) × (2 ^ 32 ≤ len)) ⊎ (LinkRefused resolver.pos out.entry.pos e × (len < 2 ^ 32)))
-            × (out.exit.0.now ≡ out.entry.out.now)) }
+        ensures { ResolvesTree len resolver.pos out.entry result out.exit.0.now }
     {
         let Place {
             out,

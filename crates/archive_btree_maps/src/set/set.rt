@@ -2,9 +2,9 @@
 ghost use Rattle.std.specs.Prelude.{◌≡◌, ◌++◌, ◌↔◌, [], length, IsTrue};
 ghost use Rattle.std.proofs.Common.{refl, lit<, lit≤};
 ghost use Rattle.archive_shape_layout.proofs.Naming.{first_types};
-ghost use Rattle.archive_btree_nodes.specs.BtreeLayout.Tree.{Tree, items};
-ghost use Rattle.archive_btree_nodes.specs.BtreeLayout.Reading.{Place};
-ghost use Rattle.archive_btree_walking.specs.Refs.{ref_at};
+ghost use Rattle.archive_btree_layout.specs.Tree.{Tree, items};
+ghost use Rattle.archive_btree_layout.specs.Reading.{Place};
+ghost use Rattle.archive_btree_maps.specs.Refs.{ref_at};
 ghost use Rattle.archive_btree_maps.specs.Sets.{IsSet, set_shape, set_knows, HasSet};
 
 use crate::map::ArchivedBTreeMap;

@@ -1,9 +1,9 @@
 //! Entries whose number is claimed before they come.
 ghost use Rattle.std.specs.Prelude.{◌≡◌, ℕ, ◌+◌, ◌-◌, ◌^◌, ◌<◌, min, List, [], ◌∷◌, length, Option, Some, None, MatchResult};
 ghost use Rattle.std.specs.Iterator.{Drains, IsFinite};
-ghost use Rattle.archive_shape_writing.specs.declared.error.Error.TheVariants.{IteratorLengthMismatch};
+ghost use Rattle.archive_shape_layout.specs.declared.error.Error.TheVariants.{IteratorLengthMismatch};
 
-use archive_shape_writing::Error;
+use archive_shape_layout::Error;
 
 /// An iterator over entries with the number of entries that was claimed.
 #[derive(Drop)]

@@ -1,11 +1,11 @@
 //! The trait of what writes the nodes of a search tree.
 ghost use Rattle.std.specs.Prelude.{◌≡◌, ℕ, ◌-◌, ◌^◌, ◌<◌, ◌≤◌, [], ◌∷◌, ◌++◌, All, length, map};
-ghost use Rattle.archive_shape.specs.ShapeLayout.Shape.{Shape};
-ghost use Rattle.archive_forms_values.specs.FormsLaws.Spelling.{Spelling};
-ghost use Rattle.archive_forms_values.specs.FormsLaws.Serializing.{HasState};
+ghost use Rattle.archive_shape_layout.specs.Shape.{Shape};
+ghost use Rattle.archive_forms_laws.specs.Spelling.{Spelling};
+ghost use Rattle.archive_forms_laws.specs.Serializing.{HasState};
 ghost use Rattle.archive_btree_spelling.specs.Laying.{LaysNode};
 
-use archive_shape_writing::{Error, Writer};
+use archive_shape_layout::{Error, Writer};
 
 /// Writes the nodes of a search tree of entries of type `T`, at most `E` in a node, each after the data of its entries.
 /// An implementation names the types of their keys and values, and how those are archived.

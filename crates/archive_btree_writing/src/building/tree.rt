@@ -1,13 +1,13 @@
 //! Writing a packed search tree, each node after what is below its pointers.
 ghost use Rattle.std.specs.Prelude.{◌≡◌, ℕ, ◌+◌, ◌-◌, ◌*◌, ◌^◌, ◌<◌, ◌≤◌, length, suc, OnOk};
 ghost use Rattle.std.specs.Iterator.{IsFinite};
-ghost use Rattle.archive_forms_values.specs.FormsLaws.Serializing.{HasState};
-ghost use Rattle.archive_forms_values.specs.FormsLaws.Taking.{GivesAs, TakesEach};
+ghost use Rattle.archive_forms_laws.specs.Serializing.{HasState};
+ghost use Rattle.archive_forms_laws.specs.Taking.{GivesAs, TakesEach};
 ghost use Rattle.archive_btree_writing.specs.Built.{Builds, BuildsLesser, BuildsClaimed};
 
 use crate::building::NodeStep;
 use crate::building::claimed::{Claimed, finish, take_entry};
-use archive_shape_writing::{Error, Writer};
+use archive_shape_layout::{Error, Writer};
 use std::marker::PhantomData;
 
 /// Writes a leaf of `count` entries, and returns its position.

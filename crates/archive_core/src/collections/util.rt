@@ -1,6 +1,4 @@
 //! Entries of maps.
 pub use archive_forms::collections::util::{
-    Entry, EntryAdapter, EntryResolver, serialize_entry_each,
+    Entry, EntryAdapter, EntryResolver, IteratorLengthMismatch, serialize_entry_each,
 };
-/// The error of an iterator that does not return as many items as are claimed.
-pub use archive_shape::Error::IteratorLengthMismatch;

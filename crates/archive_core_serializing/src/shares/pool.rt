@@ -18,6 +18,9 @@ pub struct Pool<T> {
     values: BTreeMap<usize, Option<T>>,
 }
 
+/// A deserializer of values whose counted pointers are of the type `T`.
+pub type HighDeserializer<T> = Pool<T>;
+
 impl<T: ExactClone> Pool<T> {
     /// Creates a pool with no positions. It does not allocate.
     pub fn new(alloc: Global) -> Self

@@ -1,6 +1,6 @@
 //! `Unpool`, which keeps nothing of the shared values that are read.
 ghost use Rattle.std.specs.Prelude.{false};
-ghost use Rattle.archive_shape_writing.specs.Progress.Progress.{unmet};
+ghost use Rattle.archive_shape_layout.specs.Progress.Progress.{unmet};
 
 use archive_shape::{Error, Pooling, PoolingState};
 

@@ -1,6 +1,6 @@
 //! Tests of values that are equal and have different keys.
 ghost use Rattle.std.specs.Prelude.{◌≡◌, ◌≢◌, IfOk, MatchResult};
-ghost use Rattle.archive_shape_writing.specs.declared.error.Error.TheVariants.{OutOfMemory};
+ghost use Rattle.archive_shape_layout.specs.declared.error.Error.TheVariants.{OutOfMemory};
 
 use crate::archives::archived_and_read;
 use crate::rc::values::number;

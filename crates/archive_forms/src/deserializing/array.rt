@@ -1,11 +1,11 @@
 //! Arrays are read back.
-ghost use Rattle.std.specs.Prelude.{◌+◌, ◌*◌, IfOk};
-ghost use Rattle.archive_shape.specs.ShapeLayout.Shape.{size_of};
-ghost use Rattle.archive_shape.specs.ShapeLayout.Shape.Shape.{array};
+ghost use Rattle.std.specs.Prelude.{IfOk};
+ghost use Rattle.archive_shape_layout.specs.Shape.Shape.{array};
 ghost use Rattle.archive_forms_values.specs.Parts.{HasValue};
-ghost use Rattle.archive_forms.specs.Deserializing.{Deserializes, DeserializesBy};
+ghost use Rattle.archive_forms.specs.Deserializing.{DeserializesBy};
 ghost use Rattle.archive_forms.specs.Reading.{reads_all};
-ghost use Rattle.archive_forms.specs.Steps.{StepTakes, StepReads};
+ghost use Rattle.archive_forms.specs.Calls.Forms.{DeserializesArray};
+ghost use Rattle.archive_forms.specs.Calls.Steps.{StepTakesIn, StepReadsBack};
 
 use crate::deserializing::deserialize::deserialize_element;
 use crate::deserializing::elements::deserialize_elements_each;
@@ -26,11 +26,9 @@ pub fn deserialize_array_each<
 >(this: Ref<'_, [A; N]>, alloc: Global, deserializer: &mut D, step: F) -> Result<[T; N], Error>
     requires there { HasValue (array N A.shape) A.knows this.bytes.now this.pos }
     requires kept { D.is_of deserializer.old this.bytes.now }
-    requires takes { StepTakes F.Fn step A.shape A.knows D.is_of this.bytes.now
-        (this.pos + N * size_of A.shape) }
-    requires reads { StepReads F.Fn step A.shape A.knows D.is_of this.bytes.now (λ q. q.0) A.reads }
-    ensures value { Deserializes (reads_all A.reads) (array N A.shape) A.knows this.entry.bytes.now
-        this.entry.pos result }
+    requires takes { StepTakesIn F.Fn step A.ReadBack D.is_of (array N A.shape) this }
+    requires reads { StepReadsBack F.Fn step A.ReadBack D.is_of this.bytes.now }
+    ensures value { DeserializesArray N A.ReadBack this.entry result }
     ensures keeps { IfOk result (λ _. D.is_of deserializer.new this.entry.bytes.now) }
 {
     match deserialize_elements_each(array_slice(this), alloc, deserializer, step) {

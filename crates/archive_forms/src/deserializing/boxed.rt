@@ -1,11 +1,13 @@
 //! Boxes are read back.
 ghost use Rattle.std.specs.Prelude.{refl, IfOk};
-ghost use Rattle.archive_shape.specs.ShapeLayout.Shape.Shape.{box};
-ghost use Rattle.archive_shape.specs.ShapeLayout.Shape.Pointee.{sized};
+ghost use Rattle.archive_shape_layout.specs.Shape.Shape.{box};
+ghost use Rattle.archive_shape_layout.specs.Shape.Pointee.{sized};
 ghost use Rattle.archive_forms_values.specs.Parts.{HasValue};
-ghost use Rattle.archive_forms.specs.Deserializing.{Deserializes, DeserializesBy};
+ghost use Rattle.archive_forms.specs.Deserializing.{DeserializesBy};
 ghost use Rattle.archive_forms.specs.Reading.{reads_in};
-ghost use Rattle.archive_forms.specs.Steps.{StepTakes, StepReads};
+ghost use Rattle.archive_forms.specs.Steps.{StepTakes};
+ghost use Rattle.archive_forms.specs.Calls.Forms.{DeserializesBox};
+ghost use Rattle.archive_forms.specs.Calls.Steps.{StepReadsBack};
 
 use crate::deserializing::deserialize::deserialize_element;
 use crate::deserializing::{Deserialize, DeserializeUnsized, Deserializer, ReadBack};
@@ -30,9 +32,8 @@ pub fn deserialize_box_each<
     requires there { HasValue (box (sized A.shape)) A.knows this.bytes.now this.pos }
     requires kept { D.is_of deserializer.old this.bytes.now }
     requires takes { StepTakes F.Fn step A.shape A.knows D.is_of this.bytes.now this.pos }
-    requires reads { StepReads F.Fn step A.shape A.knows D.is_of this.bytes.now (λ q. q.0) A.reads }
-    ensures value { Deserializes (reads_in (λ b. b.value) A.reads) (box (sized A.shape)) A.knows
-        this.entry.bytes.now this.entry.pos result }
+    requires reads { StepReadsBack F.Fn step A.ReadBack D.is_of this.bytes.now }
+    ensures value { DeserializesBox A.ReadBack this.entry result }
     ensures keeps { IfOk result (λ _. D.is_of deserializer.new this.entry.bytes.now) }
 {
     let value = match step(deserializer, ArchivedBox::get(this).pos) {

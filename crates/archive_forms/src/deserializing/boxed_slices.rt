@@ -1,14 +1,16 @@
 //! Boxes of slices and of texts are read back.
 ghost use Rattle.std.specs.Prelude.{refl, IfOk};
 ghost use Rattle.std.specs.Box.{boxed_slice_items, boxed_str_bytes};
-ghost use Rattle.archive_shape.specs.ShapeLayout.Shape.Shape.{box};
-ghost use Rattle.archive_shape.specs.ShapeLayout.Shape.Pointee.{slice};
+ghost use Rattle.archive_shape_layout.specs.Shape.Shape.{box};
+ghost use Rattle.archive_shape_layout.specs.Shape.Pointee.{slice};
 ghost use Rattle.archive_forms_laws.specs.Forms.{seen_as};
 ghost use Rattle.archive_forms_values.specs.Parts.{HasValue};
 ghost use Rattle.archive_forms_writing.specs.Owned.{boxed_str_spelling};
-ghost use Rattle.archive_forms.specs.Deserializing.{Deserializes, DeserializesBy};
+ghost use Rattle.archive_forms.specs.Deserializing.{DeserializesBy};
 ghost use Rattle.archive_forms.specs.Reading.{reads_all, reads_as, reads_in};
-ghost use Rattle.archive_forms.specs.Steps.{StepTakes, StepReads};
+ghost use Rattle.archive_forms.specs.Steps.{StepTakes};
+ghost use Rattle.archive_forms.specs.Calls.Forms.{DeserializesBoxedSlice};
+ghost use Rattle.archive_forms.specs.Calls.Steps.{StepReadsBack};
 
 use crate::deserializing::deserialize::deserialize_element;
 use crate::deserializing::{
@@ -36,9 +38,8 @@ pub fn deserialize_boxed_slice_each<
     requires there { HasValue (box (slice A.shape)) A.knows this.bytes.now this.pos }
     requires kept { D.is_of deserializer.old this.bytes.now }
     requires takes { StepTakes F.Fn step A.shape A.knows D.is_of this.bytes.now this.pos }
-    requires reads { StepReads F.Fn step A.shape A.knows D.is_of this.bytes.now (λ q. q.0) A.reads }
-    ensures value { Deserializes (reads_in boxed_slice_items (reads_all A.reads))
-        (box (slice A.shape)) A.knows this.entry.bytes.now this.entry.pos result }
+    requires reads { StepReadsBack F.Fn step A.ReadBack D.is_of this.bytes.now }
+    ensures value { DeserializesBoxedSlice A.ReadBack this.entry result }
     ensures keeps { IfOk result (λ _. D.is_of deserializer.new this.entry.bytes.now) }
 {
     let vector = Ref::<ArchivedVec<A>> {

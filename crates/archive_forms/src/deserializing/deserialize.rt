@@ -1,8 +1,9 @@
 //! `ReadBack` and `Deserialize`, the traits of archived values that can be read back as owned values.
 ghost use Rattle.std.specs.Prelude.{IfOk};
-ghost use Rattle.archive_shape.specs.ShapeLayout.Value.{Value};
+ghost use Rattle.archive_shape_layout.specs.Value.{Value};
 ghost use Rattle.archive_forms_values.specs.Parts.{HasValue};
-ghost use Rattle.archive_forms.specs.Deserializing.{Deserializes, DeserializesBy};
+ghost use Rattle.archive_forms.specs.Deserializing.{DeserializesBy};
+ghost use Rattle.archive_forms.specs.Calls.Forms.{DeserializesAt};
 
 use crate::deserializing::Deserializer;
 use archive_forms_writing::Archive;
@@ -31,8 +32,7 @@ pub trait Deserialize<T: Archive>: ReadBack<T> {
     ) -> Result<T, Error>
         requires there { HasValue Self.shape Self.knows this.now.bytes.now this.now.pos }
         requires kept { Self.Pool.is_of deserializer.old this.now.bytes.now }
-        ensures value { Deserializes Self.reads Self.shape Self.knows this.now.bytes.now
-            this.now.pos result }
+        ensures value { DeserializesAt Self.ReadBack this.now result }
         ensures keeps { IfOk result (λ _. Self.Pool.is_of deserializer.new this.now.bytes.now) };
 }
 

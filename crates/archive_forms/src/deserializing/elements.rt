@@ -1,9 +1,8 @@
 //! Adjacent elements are read back.
-ghost use Rattle.std.specs.Prelude.{◌+◌, ◌*◌, IfOk};
-ghost use Rattle.archive_shape.specs.ShapeLayout.Shape.{size_of};
+ghost use Rattle.std.specs.Prelude.{IfOk};
 ghost use Rattle.archive_forms_values.specs.Parts.{HasElements};
-ghost use Rattle.archive_forms.specs.Deserializing.{DeserializesAll};
-ghost use Rattle.archive_forms.specs.Steps.{StepTakes, StepReads};
+ghost use Rattle.archive_forms.specs.Calls.Forms.{DeserializesElements};
+ghost use Rattle.archive_forms.specs.Calls.Steps.{StepTakesEach, StepReadsBack};
 
 use crate::deserializing::{Deserializer, ReadBack};
 use archive_forms_values::SliceRef;
@@ -21,11 +20,9 @@ pub fn deserialize_elements_each<
 >(items: SliceRef<'_, A>, alloc: Global, deserializer: &mut D, step: F) -> Result<Vec<T>, Error>
     requires there { HasElements A.shape A.knows items.bytes.now items.pos items.len }
     requires kept { D.is_of deserializer.old items.bytes.now }
-    requires takes { StepTakes F.Fn step A.shape A.knows D.is_of items.bytes.now
-        (items.pos + items.len * size_of A.shape) }
-    requires reads { StepReads F.Fn step A.shape A.knows D.is_of items.bytes.now (λ q. q.0) A.reads }
-    ensures values { DeserializesAll A.reads A.shape A.knows items.entry.bytes.now items.entry.pos
-        items.entry.len (λ all. all.items) result }
+    requires takes { StepTakesEach F.Fn step A.ReadBack D.is_of items }
+    requires reads { StepReadsBack F.Fn step A.ReadBack D.is_of items.bytes.now }
+    ensures values { DeserializesElements (λ all. all.items) A.ReadBack items.entry result }
     ensures keeps { IfOk result (λ _. D.is_of deserializer.new items.entry.bytes.now) }
 {
     let mut all = Vec::new(alloc);

@@ -3,8 +3,9 @@ ghost use Rattle.std.specs.Prelude.{◌≡◌, ℕ, List, Option, Some, IfOk, Ma
 ghost use Rattle.std.proofs.Common.{subst, sym};
 ghost use Rattle.std.specs.Rc.{rc_slice_items, rc_str_bytes};
 ghost use Rattle.archive_forms.specs.Deserializing.{IsReadAt, AreReadFrom};
-ghost use Rattle.archive_forms.specs.Keeping.{IsKept, IsCloneOf, IsTextAt};
-ghost use Rattle.archive_shape_writing.specs.declared.error.Error.TheVariants.{OutOfMemory};
+ghost use Rattle.archive_forms.specs.Keeping.{IsCloneOf, IsTextAt};
+ghost use Rattle.archive_shape_layout.specs.declared.error.Error.TheVariants.{OutOfMemory};
+ghost use Rattle.archive_forms.specs.Calls.Pools.{KeepsRead, KeepsPointer};
 
 use crate::deserializing::{Deserializer, ReadBack};
 use archive_shape::{Error, Slice, Str};
@@ -48,9 +49,8 @@ pub trait Keeps<P: Clone, A: ReadBehind<P>>: Deserializer {
 
     /// Keeps a pointer to what was read at a position, in place of any that was kept for it.
     fn keep(&mut self, pos: usize, pointer: P) -> Result<(), Error>
-        ensures kept { MatchResult result (λ _. IsKept (kept self.old) (kept self.new) pos pointer) (λ e. e ≡ OutOfMemory) }
-        ensures of { (bytes : List ℕ) → Self.is_of self.old bytes → A.is_read bytes pos pointer
-            → IfOk result (λ _. Self.is_of self.new bytes) };
+        ensures kept { KeepsPointer (kept self.old) (kept self.new) pos pointer result }
+        ensures of { KeepsRead Self.is_of A.is_read pos pointer self.old self.new result };
 
     /// What is kept was read from the bytes.
     ghost kept_is_read: { (deserializer : Self) (bytes : List ℕ) (pos : ℕ) (pointer : P) → Self.is_of deserializer bytes → kept deserializer pos ≡ Some pointer → A.is_read bytes pos pointer };
@@ -64,8 +64,7 @@ pub(crate) fn keep_clone<P: Clone + Drop, A: ReadBehind<P>, D: Keeps<P, A>>(
 ) -> Result<P, Error>
     ensures value { MatchResult result (λ kept. kept ≡ pointer) (λ e. e ≡ OutOfMemory) }
     ensures pooled { IfOk result (λ _. MatchOption (D.kept deserializer.new pos) ⊥ (P.is_clone pointer)) }
-    ensures keeps { (bytes : List ℕ) → D.is_of deserializer.old bytes → A.is_read bytes pos pointer
-        → IfOk result (λ _. D.is_of deserializer.new bytes) }
+    ensures keeps { KeepsRead D.is_of A.is_read pos pointer deserializer.old deserializer.new result }
 {
     let copy = match pointer.clone() {
         Ok(copy) => copy,

@@ -1,10 +1,10 @@
 //! What counted pointers lead to is read once for each position.
-ghost use Rattle.std.specs.Prelude.{◌≡◌, ◌+◌, ◌*◌, length, IfOk, IsSome, MatchOption, ⊤};
+ghost use Rattle.std.specs.Prelude.{IfOk};
 ghost use Rattle.std.specs.Rc.{rc_slice_items};
-ghost use Rattle.archive_shape.specs.ShapeLayout.Shape.{size_of};
 ghost use Rattle.archive_forms_values.specs.Parts.{HasValue, HasElements};
-ghost use Rattle.archive_forms.specs.Deserializing.{DeserializesBy, DeserializesAll};
-ghost use Rattle.archive_forms.specs.Steps.{StepTakes, StepReads};
+ghost use Rattle.archive_forms.specs.Calls.Forms.{DeserializesValue, DeserializesElements};
+ghost use Rattle.archive_forms.specs.Calls.Pools.{IsPooledAt, ReusesAt, ReusesElements};
+ghost use Rattle.archive_forms.specs.Calls.Steps.{StepTakesIn, StepTakesEach, StepReadsBack};
 
 use crate::deserializing::elements::deserialize_elements_each;
 use crate::deserializing::keeping::keep_clone;
@@ -26,15 +26,12 @@ pub(crate) fn read_value_once<
 >(value: Ref<'_, A>, alloc: Global, deserializer: &mut D, step: F) -> Result<Rc<T>, Error>
     requires there { HasValue A.shape A.knows value.bytes.now value.pos }
     requires kept { D.is_of deserializer.old value.bytes.now }
-    requires takes { StepTakes F.Fn step A.shape A.knows D.is_of value.bytes.now
-        (value.pos + size_of A.shape) }
-    requires reads { StepReads F.Fn step A.shape A.knows D.is_of value.bytes.now (λ q. q.0) A.reads }
-    ensures value { DeserializesBy A.reads A.shape A.knows value.entry.bytes.now value.entry.pos
-        (λ pointer. pointer.value) result }
+    requires takes { StepTakesIn F.Fn step A.ReadBack D.is_of A.shape value }
+    requires reads { StepReadsBack F.Fn step A.ReadBack D.is_of value.bytes.now }
+    ensures value { DeserializesValue (λ pointer. pointer.value) A.ReadBack value.entry result }
     ensures keeps { IfOk result (λ _. D.is_of deserializer.new value.entry.bytes.now) }
-    ensures pooled { IfOk result (λ pointer. MatchOption (D.kept deserializer.new value.entry.pos) ⊥
-        (λ copy. copy.value ≡ pointer.value)) }
-    ensures unread { IsSome (D.kept deserializer.old value.entry.pos) → deserializer.new ≡ deserializer.old }
+    ensures pooled { IfOk result (IsPooledAt (λ p. p.value) (D.kept deserializer.new) value.entry.pos) }
+    ensures unread { ReusesAt D.kept value.entry.pos deserializer.old deserializer.new }
 {
     let pos = value.pos;
     match deserializer.clone_kept(pos) {
@@ -63,16 +60,12 @@ pub(crate) fn read_elements_once<
 >(items: SliceRef<'_, A>, alloc: Global, deserializer: &mut D, step: F) -> Result<RcSlice<T>, Error>
     requires there { HasElements A.shape A.knows items.bytes.now items.pos items.len }
     requires kept { D.is_of deserializer.old items.bytes.now }
-    requires takes { StepTakes F.Fn step A.shape A.knows D.is_of items.bytes.now
-        (items.pos + items.len * size_of A.shape) }
-    requires reads { StepReads F.Fn step A.shape A.knows D.is_of items.bytes.now (λ q. q.0) A.reads }
-    ensures values { DeserializesAll A.reads A.shape A.knows items.entry.bytes.now items.entry.pos
-        items.entry.len (λ pointer. rc_slice_items pointer) result }
+    requires takes { StepTakesEach F.Fn step A.ReadBack D.is_of items }
+    requires reads { StepReadsBack F.Fn step A.ReadBack D.is_of items.bytes.now }
+    ensures values { DeserializesElements rc_slice_items A.ReadBack items.entry result }
     ensures keeps { IfOk result (λ _. D.is_of deserializer.new items.entry.bytes.now) }
-    ensures pooled { IfOk result (λ pointer. MatchOption (D.kept deserializer.new items.entry.pos) ⊥
-        (λ copy. rc_slice_items copy ≡ rc_slice_items pointer)) }
-    ensures unread { MatchOption (D.kept deserializer.old items.entry.pos) ⊤
-        (λ copy. length (rc_slice_items copy) ≡ items.entry.len → deserializer.new ≡ deserializer.old) }
+    ensures pooled { IfOk result (IsPooledAt rc_slice_items (D.kept deserializer.new) items.entry.pos) }
+    ensures unread { ReusesElements D.kept items.entry deserializer.old deserializer.new }
 {
     let pos = items.pos;
     match deserializer.clone_kept(pos) {

@@ -1,11 +1,11 @@
 //! Options are read back.
-ghost use Rattle.std.specs.Prelude.{◌+◌, IfOk};
-ghost use Rattle.archive_shape.specs.ShapeLayout.Shape.{size_of};
-ghost use Rattle.archive_shape.specs.ShapeLayout.Shape.Shape.{option};
+ghost use Rattle.std.specs.Prelude.{IfOk};
+ghost use Rattle.archive_shape_layout.specs.Shape.Shape.{option};
 ghost use Rattle.archive_forms_values.specs.Parts.{HasValue};
-ghost use Rattle.archive_forms.specs.Deserializing.{Deserializes, DeserializesBy};
+ghost use Rattle.archive_forms.specs.Deserializing.{DeserializesBy};
 ghost use Rattle.archive_forms.specs.Reading.{reads_option};
-ghost use Rattle.archive_forms.specs.Steps.{StepTakes, StepReads};
+ghost use Rattle.archive_forms.specs.Calls.Forms.{DeserializesOption};
+ghost use Rattle.archive_forms.specs.Calls.Steps.{StepTakesIn, StepReadsBack};
 
 use crate::deserializing::deserialize::deserialize_element;
 use crate::deserializing::{Deserialize, Deserializer, ReadBack};
@@ -24,11 +24,9 @@ pub fn deserialize_option_each<
 >(this: Ref<'_, ArchivedOption<A>>, deserializer: &mut D, step: F) -> Result<Option<T>, Error>
     requires there { HasValue (option A.shape) A.knows this.bytes.now this.pos }
     requires kept { D.is_of deserializer.old this.bytes.now }
-    requires takes { StepTakes F.Fn step A.shape A.knows D.is_of this.bytes.now
-        (this.pos + size_of (option A.shape)) }
-    requires reads { StepReads F.Fn step A.shape A.knows D.is_of this.bytes.now (λ q. q.0) A.reads }
-    ensures value { Deserializes (reads_option A.reads) (option A.shape) A.knows this.entry.bytes.now
-        this.entry.pos result }
+    requires takes { StepTakesIn F.Fn step A.ReadBack D.is_of (option A.shape) this }
+    requires reads { StepReadsBack F.Fn step A.ReadBack D.is_of this.bytes.now }
+    ensures value { DeserializesOption A.ReadBack this.entry result }
     ensures keeps { IfOk result (λ _. D.is_of deserializer.new this.entry.bytes.now) }
 {
     match ArchivedOption::as_ref(this) {

@@ -1,12 +1,12 @@
 //! Results are read back.
-ghost use Rattle.std.specs.Prelude.{◌+◌, IfOk};
-ghost use Rattle.archive_shape.specs.ShapeLayout.Shape.{size_of};
-ghost use Rattle.archive_shape.specs.ShapeLayout.Shape.Shape.{result as result_shape};
-ghost use Rattle.archive_forms_values.specs.Parts.{HasValue, both};
-ghost use Rattle.archive_forms.specs.Deserializing.{Deserializes, DeserializesBy};
+ghost use Rattle.std.specs.Prelude.{IfOk};
+ghost use Rattle.archive_shape_layout.specs.Shape.Shape.{result as result_shape};
+ghost use Rattle.archive_forms_values.specs.Parts.{HasValue};
+ghost use Rattle.archive_forms.specs.Deserializing.{DeserializesBy};
 ghost use Rattle.archive_forms.specs.Keeping.{both_of};
 ghost use Rattle.archive_forms.specs.Reading.{reads_result};
-ghost use Rattle.archive_forms.specs.Steps.{StepTakes, StepReads};
+ghost use Rattle.archive_forms.specs.Calls.Forms.{HasResult, DeserializesResult};
+ghost use Rattle.archive_forms.specs.Calls.Steps.{StepTakesIn, StepReadsBack};
 
 use crate::deserializing::deserialize::deserialize_element;
 use crate::deserializing::{Deserialize, Deserializer, ReadBack};
@@ -31,18 +31,14 @@ pub fn deserialize_result_each<
     step: F,
     step_of_error: G,
 ) -> Result<Result<T, E>, Error>
-    requires there { HasValue (result_shape A.shape B.shape) (both A.knows B.knows)
-        this.bytes.now this.pos }
+    requires there { HasResult A.ReadBack B.ReadBack this }
     requires kept { D.is_of deserializer.old this.bytes.now }
-    requires takes { StepTakes F.Fn step A.shape A.knows D.is_of this.bytes.now
-        (this.pos + size_of (result_shape A.shape B.shape)) }
-    requires reads { StepReads F.Fn step A.shape A.knows D.is_of this.bytes.now (λ q. q.0) A.reads }
-    requires takes_errors { StepTakes G.Fn step_of_error B.shape B.knows D.is_of this.bytes.now
-        (this.pos + size_of (result_shape A.shape B.shape)) }
-    requires reads_errors { StepReads G.Fn step_of_error B.shape B.knows D.is_of this.bytes.now
-        (λ q. q.0) B.reads }
-    ensures value { Deserializes (reads_result A.reads B.reads) (result_shape A.shape B.shape)
-        (both A.knows B.knows) this.entry.bytes.now this.entry.pos result }
+    requires takes { StepTakesIn F.Fn step A.ReadBack D.is_of (result_shape A.shape B.shape) this }
+    requires reads { StepReadsBack F.Fn step A.ReadBack D.is_of this.bytes.now }
+    requires takes_errors { StepTakesIn G.Fn step_of_error B.ReadBack D.is_of
+        (result_shape A.shape B.shape) this }
+    requires reads_errors { StepReadsBack G.Fn step_of_error B.ReadBack D.is_of this.bytes.now }
+    ensures value { DeserializesResult A.ReadBack B.ReadBack this.entry result }
     ensures keeps { IfOk result (λ _. D.is_of deserializer.new this.entry.bytes.now) }
 {
     match ArchivedResult::as_ref(this) {

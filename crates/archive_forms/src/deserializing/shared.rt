@@ -1,13 +1,14 @@
 //! Counted pointers to values are read back.
-ghost use Rattle.std.specs.Prelude.{◌≡◌, false, IfOk, IsSome, MatchOption};
-ghost use Rattle.archive_shape.specs.ShapeLayout.Shape.Shape.{shared};
-ghost use Rattle.archive_shape.specs.ShapeLayout.Shape.Pointee.{sized};
-ghost use Rattle.archive_forms_rc.specs.Pointers.{IsRcAt};
+ghost use Rattle.std.specs.Prelude.{false, IfOk};
+ghost use Rattle.archive_shape_layout.specs.Shape.Shape.{shared};
+ghost use Rattle.archive_shape_layout.specs.Shape.Pointee.{sized};
 ghost use Rattle.archive_forms_values.specs.Parts.{HasValue};
-ghost use Rattle.archive_forms.specs.Deserializing.{Deserializes, DeserializesBy, IsReadAt};
-ghost use Rattle.archive_forms.specs.Reading.{reads_counted, reads_in};
-ghost use Rattle.archive_forms.specs.Keeping.{pool_of};
-ghost use Rattle.archive_forms.specs.Steps.{StepTakes, StepReads};
+ghost use Rattle.archive_forms.specs.Deserializing.{DeserializesBy};
+ghost use Rattle.archive_forms.specs.Steps.{StepTakes};
+ghost use Rattle.archive_forms.specs.Reading.{reads_rc};
+ghost use Rattle.archive_forms.specs.Calls.Pointers.{DeserializesRc, HasRcKey};
+ghost use Rattle.archive_forms.specs.Calls.Pools.{value_pool_of, StaysOf, IsPooled, ReusesAt};
+ghost use Rattle.archive_forms.specs.Calls.Steps.{StepReadsBack};
 
 use crate::deserializing::deserialize::deserialize_element;
 use crate::deserializing::once::read_value_once;
@@ -35,15 +36,12 @@ pub fn deserialize_rc_each<
     requires there { HasValue (shared false (sized A.shape)) A.knows this.bytes.now this.pos }
     requires kept { D.is_of deserializer.old this.bytes.now }
     requires takes { StepTakes F.Fn step A.shape A.knows D.is_of this.bytes.now this.pos }
-    requires reads { StepReads F.Fn step A.shape A.knows D.is_of this.bytes.now (λ q. q.0) A.reads }
-    ensures value { Deserializes (reads_in (λ x. x.value.value) (reads_counted A.reads))
-        (shared false (sized A.shape)) A.knows this.entry.bytes.now this.entry.pos result }
-    ensures key { IfOk result (λ x. IsRcAt false A.shape A.knows this.entry.bytes.now this.entry.pos x.key) }
+    requires reads { StepReadsBack F.Fn step A.ReadBack D.is_of this.bytes.now }
+    ensures value { DeserializesRc A.ReadBack this.entry result }
+    ensures key { IfOk result (HasRcKey A.ReadBack this.entry) }
     ensures keeps { IfOk result (λ _. D.is_of deserializer.new this.entry.bytes.now) }
-    ensures pooled { IfOk result (λ x. MatchOption (D.kept deserializer.new x.key) ⊥
-        (λ copy. copy.value ≡ x.value.value)) }
-    ensures unread { IfOk result (λ x. IsSome (D.kept deserializer.old x.key)
-        → deserializer.new ≡ deserializer.old) }
+    ensures pooled { IfOk result (IsPooled (λ p. p.value) (D.kept deserializer.new)) }
+    ensures unread { IfOk result (λ x. ReusesAt D.kept x.key deserializer.old deserializer.new) }
 {
     let target = ArchivedRc::get(this);
     let key = target.pos;
@@ -54,7 +52,7 @@ pub fn deserialize_rc_each<
 }
 
 impl<T, A: ReadBack<T>> ReadBack<Shared<Rc<T>>> for ArchivedRc<A, RcFlavor> {
-    ghost reads = { reads_in (λ x. x.value.value) (reads_counted A.reads) };
+    ghost reads = { reads_rc A.reads };
 }
 
 impl<T: Archive + Drop, A: Deserialize<T>> Deserialize<Shared<Rc<T>>> for ArchivedRc<A, RcFlavor> {
@@ -66,11 +64,10 @@ impl<T: Archive + Drop, A: Deserialize<T>> Deserialize<Shared<Rc<T>>> for Archiv
         deserializer: &mut SharedPool<Rc<T>, A, A::Pool>,
     ) -> Result<Shared<Rc<T>>, Error>
         requires there { HasValue (shared false (sized A.shape)) A.knows this.now.bytes.now this.now.pos }
-        requires kept { pool_of (λ bytes pos pointer. IsReadAt A.reads A.shape A.knows bytes pos pointer.value) A.Pool.is_of deserializer.old this.now.bytes.now }
-        ensures value { Deserializes (reads_in (λ x. x.value.value) (reads_counted A.reads))
-            (shared false (sized A.shape)) A.knows this.now.bytes.now this.now.pos result }
-        ensures key { IfOk result (λ x. IsRcAt false A.shape A.knows this.now.bytes.now this.now.pos x.key) }
-        ensures keeps { IfOk result (λ _. pool_of (λ bytes pos pointer. IsReadAt A.reads A.shape A.knows bytes pos pointer.value) A.Pool.is_of deserializer.new this.now.bytes.now) }
+        requires kept { value_pool_of A.ReadBack A.Pool.is_of deserializer.old this.now.bytes.now }
+        ensures value { DeserializesRc A.ReadBack this.now result }
+        ensures key { IfOk result (HasRcKey A.ReadBack this.now) }
+        ensures keeps { StaysOf (value_pool_of A.ReadBack A.Pool.is_of) deserializer.new this.now result }
     {
         let bytes = this.bytes;
         deserialize_rc_each::<T, A, SharedPool<Rc<T>, A, A::Pool>, _>(
@@ -82,9 +79,9 @@ impl<T: Archive + Drop, A: Deserialize<T>> Deserialize<Shared<Rc<T>>> for Archiv
                 Error,
             >
                 requires there { HasValue A.shape A.knows bytes.now pos }
-                requires kept { pool_of (λ bytes pos pointer. IsReadAt A.reads A.shape A.knows bytes pos pointer.value) A.Pool.is_of d.old bytes.now }
+                requires kept { value_pool_of A.ReadBack A.Pool.is_of d.old bytes.now }
                 ensures value { DeserializesBy A.reads A.shape A.knows bytes.entry.now pos (λ q. q.0) result }
-                ensures keeps { IfOk result (λ _. pool_of (λ bytes pos pointer. IsReadAt A.reads A.shape A.knows bytes pos pointer.value) A.Pool.is_of d.new bytes.entry.now) }
+                ensures keeps { IfOk result (λ _. value_pool_of A.ReadBack A.Pool.is_of d.new bytes.entry.now) }
             { deserialize_element::<T, A>(bytes, pos, alloc, &mut d.inside) },
         )
     }

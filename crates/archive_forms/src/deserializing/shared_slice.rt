@@ -1,14 +1,15 @@
 //! Counted pointers to slices are read back.
-ghost use Rattle.std.specs.Prelude.{◌≡◌, false, length, IfOk, MatchOption, ⊤};
+ghost use Rattle.std.specs.Prelude.{false, IfOk};
 ghost use Rattle.std.specs.Rc.{rc_slice_items};
-ghost use Rattle.archive_shape.specs.ShapeLayout.Shape.Shape.{shared};
-ghost use Rattle.archive_shape.specs.ShapeLayout.Shape.Pointee.{slice};
-ghost use Rattle.archive_forms_rc.specs.Pointers.{IsRcSliceAt};
+ghost use Rattle.archive_shape_layout.specs.Shape.Shape.{shared};
+ghost use Rattle.archive_shape_layout.specs.Shape.Pointee.{slice};
 ghost use Rattle.archive_forms_values.specs.Parts.{HasValue};
-ghost use Rattle.archive_forms.specs.Deserializing.{AreReadFrom, Deserializes, DeserializesBy};
-ghost use Rattle.archive_forms.specs.Reading.{reads_all, reads_counted, reads_in};
-ghost use Rattle.archive_forms.specs.Keeping.{pool_of};
-ghost use Rattle.archive_forms.specs.Steps.{StepTakes, StepReads};
+ghost use Rattle.archive_forms.specs.Deserializing.{DeserializesBy};
+ghost use Rattle.archive_forms.specs.Steps.{StepTakes};
+ghost use Rattle.archive_forms.specs.Reading.{reads_rc_slice};
+ghost use Rattle.archive_forms.specs.Calls.Pointers.{DeserializesRcSlice, HasRcSliceKey};
+ghost use Rattle.archive_forms.specs.Calls.Pools.{slice_pool_of, StaysOf, IsPooled, Reuses};
+ghost use Rattle.archive_forms.specs.Calls.Steps.{StepReadsBack};
 
 use crate::deserializing::deserialize::deserialize_element;
 use crate::deserializing::once::read_elements_once;
@@ -36,17 +37,12 @@ pub fn deserialize_rc_slice_each<
     requires there { HasValue (shared false (slice A.shape)) A.knows this.bytes.now this.pos }
     requires kept { D.is_of deserializer.old this.bytes.now }
     requires takes { StepTakes F.Fn step A.shape A.knows D.is_of this.bytes.now this.pos }
-    requires reads { StepReads F.Fn step A.shape A.knows D.is_of this.bytes.now (λ q. q.0) A.reads }
-    ensures value { Deserializes (reads_in (λ x. rc_slice_items x.value)
-        (reads_counted (reads_all A.reads))) (shared false (slice A.shape)) A.knows this.entry.bytes.now
-        this.entry.pos result }
-    ensures key { IfOk result (λ x. IsRcSliceAt false A.shape A.knows this.entry.bytes.now this.entry.pos x.key (length (rc_slice_items x.value))) }
+    requires reads { StepReadsBack F.Fn step A.ReadBack D.is_of this.bytes.now }
+    ensures value { DeserializesRcSlice A.ReadBack this.entry result }
+    ensures key { IfOk result (HasRcSliceKey A.ReadBack this.entry) }
     ensures keeps { IfOk result (λ _. D.is_of deserializer.new this.entry.bytes.now) }
-    ensures pooled { IfOk result (λ x. MatchOption (D.kept deserializer.new x.key) ⊥
-        (λ copy. rc_slice_items copy ≡ rc_slice_items x.value)) }
-    ensures unread { IfOk result (λ x. MatchOption (D.kept deserializer.old x.key) ⊤
-        (λ copy. length (rc_slice_items copy) ≡ length (rc_slice_items x.value)
-        → deserializer.new ≡ deserializer.old)) }
+    ensures pooled { IfOk result (IsPooled rc_slice_items (D.kept deserializer.new)) }
+    ensures unread { IfOk result (Reuses rc_slice_items D.kept deserializer.old deserializer.new) }
 {
     let items = ArchivedRcSlice::get(this);
     let key = items.pos;
@@ -57,7 +53,7 @@ pub fn deserialize_rc_slice_each<
 }
 
 impl<T, A: ReadBack<T>> ReadBack<Shared<RcSlice<T>>> for ArchivedRcSlice<A, RcFlavor> {
-    ghost reads = { reads_in (λ x. rc_slice_items x.value) (reads_counted (reads_all A.reads)) };
+    ghost reads = { reads_rc_slice A.reads };
 }
 
 impl<T: Archive + Drop, A: Deserialize<T>> Deserialize<Shared<RcSlice<T>>>
@@ -70,12 +66,10 @@ impl<T: Archive + Drop, A: Deserialize<T>> Deserialize<Shared<RcSlice<T>>>
         deserializer: &mut SharedPool<RcSlice<T>, Slice<A>, A::Pool>,
     ) -> Result<Shared<RcSlice<T>>, Error>
         requires there { HasValue (shared false (slice A.shape)) A.knows this.now.bytes.now this.now.pos }
-        requires kept { pool_of (λ bytes pos pointer. AreReadFrom A.reads A.shape A.knows bytes pos (rc_slice_items pointer)) A.Pool.is_of deserializer.old this.now.bytes.now }
-        ensures value { Deserializes (reads_in (λ x. rc_slice_items x.value)
-            (reads_counted (reads_all A.reads))) (shared false (slice A.shape)) A.knows
-            this.now.bytes.now this.now.pos result }
-        ensures key { IfOk result (λ x. IsRcSliceAt false A.shape A.knows this.now.bytes.now this.now.pos x.key (length (rc_slice_items x.value))) }
-        ensures keeps { IfOk result (λ _. pool_of (λ bytes pos pointer. AreReadFrom A.reads A.shape A.knows bytes pos (rc_slice_items pointer)) A.Pool.is_of deserializer.new this.now.bytes.now) }
+        requires kept { slice_pool_of A.ReadBack A.Pool.is_of deserializer.old this.now.bytes.now }
+        ensures value { DeserializesRcSlice A.ReadBack this.now result }
+        ensures key { IfOk result (HasRcSliceKey A.ReadBack this.now) }
+        ensures keeps { StaysOf (slice_pool_of A.ReadBack A.Pool.is_of) deserializer.new this.now result }
     {
         let bytes = this.bytes;
         deserialize_rc_slice_each::<T, A, SharedPool<RcSlice<T>, Slice<A>, A::Pool>, _>(
@@ -87,9 +81,9 @@ impl<T: Archive + Drop, A: Deserialize<T>> Deserialize<Shared<RcSlice<T>>>
                 Error,
             >
                 requires there { HasValue A.shape A.knows bytes.now pos }
-                requires kept { pool_of (λ bytes pos pointer. AreReadFrom A.reads A.shape A.knows bytes pos (rc_slice_items pointer)) A.Pool.is_of d.old bytes.now }
+                requires kept { slice_pool_of A.ReadBack A.Pool.is_of d.old bytes.now }
                 ensures value { DeserializesBy A.reads A.shape A.knows bytes.entry.now pos (λ q. q.0) result }
-                ensures keeps { IfOk result (λ _. pool_of (λ bytes pos pointer. AreReadFrom A.reads A.shape A.knows bytes pos (rc_slice_items pointer)) A.Pool.is_of d.new bytes.entry.now) }
+                ensures keeps { IfOk result (λ _. slice_pool_of A.ReadBack A.Pool.is_of d.new bytes.entry.now) }
             { deserialize_element::<T, A>(bytes, pos, alloc, &mut d.inside) },
         )
     }

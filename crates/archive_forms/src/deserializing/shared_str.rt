@@ -1,14 +1,13 @@
 //! Counted pointers to texts are read back.
-ghost use Rattle.std.specs.Prelude.{◌≡◌, false, length, IfOk, MatchOption, ⊤};
+ghost use Rattle.std.specs.Prelude.{false, IfOk, ⊤};
 ghost use Rattle.std.specs.Rc.{rc_str_bytes};
-ghost use Rattle.archive_shape.specs.ShapeLayout.Shape.Shape.{shared};
-ghost use Rattle.archive_shape.specs.ShapeLayout.Shape.Pointee.{str};
-ghost use Rattle.archive_forms_rc.specs.Pointers.{IsRcStrAt};
+ghost use Rattle.archive_shape_layout.specs.Shape.Shape.{shared};
+ghost use Rattle.archive_shape_layout.specs.Shape.Pointee.{str};
 ghost use Rattle.archive_forms_values.specs.Parts.{HasValue};
 ghost use Rattle.archive_forms_rc.specs.Counted.{shared_str_rc_spelling};
-ghost use Rattle.archive_forms.specs.Deserializing.{Deserializes};
-ghost use Rattle.archive_forms.specs.Keeping.{IsTextAt, pool_of};
 ghost use Rattle.archive_forms.specs.Reading.{reads_as};
+ghost use Rattle.archive_forms.specs.Calls.Pointers.{DeserializesRcStr, HasRcStrKey};
+ghost use Rattle.archive_forms.specs.Calls.Pools.{text_pool_of, StaysOf, IsPooled, Reuses};
 
 use crate::deserializing::keeping::keep_clone;
 use crate::deserializing::{Deserialize, Keeps, ReadBack, SharedPool};
@@ -27,16 +26,11 @@ pub fn deserialize_rc_str<D: Keeps<RcStr, Str>>(
 ) -> Result<Shared<RcStr>, Error>
     requires there { HasValue (shared false str) (λ _. ⊤) this.bytes.now this.pos }
     requires kept { D.is_of deserializer.old this.bytes.now }
-    ensures value { Deserializes (reads_as shared_str_rc_spelling) (shared false str) (λ _. ⊤)
-        this.entry.bytes.now this.entry.pos result }
-    ensures key { IfOk result (λ x. IsRcStrAt false this.entry.bytes.now this.entry.pos x.key
-        (length (rc_str_bytes x.value))) }
+    ensures value { DeserializesRcStr this.entry result }
+    ensures key { IfOk result (HasRcStrKey this.entry) }
     ensures keeps { IfOk result (λ _. D.is_of deserializer.new this.entry.bytes.now) }
-    ensures pooled { IfOk result (λ x. MatchOption (D.kept deserializer.new x.key) ⊥
-        (λ copy. rc_str_bytes copy ≡ rc_str_bytes x.value)) }
-    ensures unread { IfOk result (λ x. MatchOption (D.kept deserializer.old x.key) ⊤
-        (λ copy. length (rc_str_bytes copy) ≡ length (rc_str_bytes x.value)
-        → deserializer.new ≡ deserializer.old)) }
+    ensures pooled { IfOk result (IsPooled rc_str_bytes (D.kept deserializer.new)) }
+    ensures unread { IfOk result (Reuses rc_str_bytes D.kept deserializer.old deserializer.new) }
 {
     let key = target_of(this.bytes, this.pos);
     let text = ArchivedRcStr::get(this);
@@ -72,12 +66,10 @@ impl Deserialize<Shared<RcStr>> for ArchivedRcStr<RcFlavor> {
         deserializer: &mut SharedPool<RcStr, Str, ()>,
     ) -> Result<Shared<RcStr>, Error>
         requires there { HasValue (shared false str) (λ _. ⊤) this.now.bytes.now this.now.pos }
-        requires kept { pool_of (λ bytes pos pointer. IsTextAt bytes pos (rc_str_bytes pointer)) (λ _ _. ⊤) deserializer.old this.now.bytes.now }
-        ensures value { Deserializes (reads_as shared_str_rc_spelling) (shared false str) (λ _. ⊤)
-            this.now.bytes.now this.now.pos result }
-        ensures key { IfOk result (λ x. IsRcStrAt false this.now.bytes.now this.now.pos x.key
-            (length (rc_str_bytes x.value))) }
-        ensures keeps { IfOk result (λ _. pool_of (λ bytes pos pointer. IsTextAt bytes pos (rc_str_bytes pointer)) (λ _ _. ⊤) deserializer.new this.now.bytes.now) }
+        requires kept { text_pool_of deserializer.old this.now.bytes.now }
+        ensures value { DeserializesRcStr this.now result }
+        ensures key { IfOk result (HasRcStrKey this.now) }
+        ensures keeps { StaysOf text_pool_of deserializer.new this.now result }
     {
         deserialize_rc_str(*this, alloc, deserializer)
     }

@@ -1,12 +1,12 @@
 //! Tuples of one field are read back.
-ghost use Rattle.std.specs.Prelude.{◌+◌, IfOk};
-ghost use Rattle.archive_shape.specs.ShapeLayout.Shape.{size_of};
+ghost use Rattle.std.specs.Prelude.{IfOk};
 ghost use Rattle.archive_forms_values.specs.Tuples.{tuple1};
 ghost use Rattle.archive_forms_values.specs.Parts.{HasValue};
-ghost use Rattle.archive_forms.specs.Deserializing.{Deserializes, DeserializesBy};
+ghost use Rattle.archive_forms.specs.Deserializing.{DeserializesBy};
 ghost use Rattle.archive_forms.specs.Keeping.{one_of};
 ghost use Rattle.archive_forms.specs.Reading.{reads_tuple1};
-ghost use Rattle.archive_forms.specs.Steps.{StepTakes, StepReads};
+ghost use Rattle.archive_forms.specs.Calls.Forms.{DeserializesTuple1};
+ghost use Rattle.archive_forms.specs.Calls.Steps.{StepTakesIn, StepReadsBack};
 
 use crate::deserializing::deserialize::deserialize_element;
 use crate::deserializing::{Deserialize, Deserializer, ReadBack};
@@ -25,11 +25,9 @@ pub fn deserialize_tuple1_each<
 >(this: Ref<'_, ArchivedTuple1<A>>, deserializer: &mut S, read_first: F) -> Result<(T,), Error>
     requires there { HasValue (tuple1 A.shape) A.knows this.bytes.now this.pos }
     requires kept { S.is_of deserializer.old this.bytes.now }
-    requires takes_first { StepTakes F.Fn read_first A.shape A.knows S.is_of this.bytes.now
-        (this.pos + size_of (tuple1 A.shape)) }
-    requires reads_first { StepReads F.Fn read_first A.shape A.knows S.is_of this.bytes.now (λ q. q.0) A.reads }
-    ensures value { Deserializes (reads_tuple1 A.reads) (tuple1 A.shape) A.knows this.entry.bytes.now
-        this.entry.pos result }
+    requires takes_first { StepTakesIn F.Fn read_first A.ReadBack S.is_of (tuple1 A.shape) this }
+    requires reads_first { StepReadsBack F.Fn read_first A.ReadBack S.is_of this.bytes.now }
+    ensures value { DeserializesTuple1 A.ReadBack this.entry result }
     ensures keeps { IfOk result (λ _. S.is_of deserializer.new this.entry.bytes.now) }
 {
     let t = match read_first(deserializer, ArchivedTuple1::first(this).pos) {

@@ -1,12 +1,12 @@
 //! Tuples of two fields are read back.
-ghost use Rattle.std.specs.Prelude.{◌+◌, IfOk};
-ghost use Rattle.archive_shape.specs.ShapeLayout.Shape.{size_of};
+ghost use Rattle.std.specs.Prelude.{IfOk};
 ghost use Rattle.archive_forms_values.specs.Tuples.{tuple2};
 ghost use Rattle.archive_forms_values.specs.Parts.{HasValue, both};
-ghost use Rattle.archive_forms.specs.Deserializing.{Deserializes, DeserializesBy};
+ghost use Rattle.archive_forms.specs.Deserializing.{DeserializesBy};
 ghost use Rattle.archive_forms.specs.Keeping.{both_of};
 ghost use Rattle.archive_forms.specs.Reading.{reads_tuple2};
-ghost use Rattle.archive_forms.specs.Steps.{StepTakes, StepReads};
+ghost use Rattle.archive_forms.specs.Calls.Forms.{DeserializesTuple2};
+ghost use Rattle.archive_forms.specs.Calls.Steps.{StepTakesIn, StepReadsBack};
 
 use crate::deserializing::deserialize::deserialize_element;
 use crate::deserializing::{Deserialize, Deserializer, ReadBack};
@@ -33,15 +33,13 @@ pub fn deserialize_tuple2_each<
 ) -> Result<(T, U), Error>
     requires there { HasValue (tuple2 A.shape B.shape) (both A.knows B.knows) this.bytes.now this.pos }
     requires kept { S.is_of deserializer.old this.bytes.now }
-    requires takes_first { StepTakes F.Fn read_first A.shape A.knows S.is_of this.bytes.now
-        (this.pos + size_of (tuple2 A.shape B.shape)) }
-    requires reads_first { StepReads F.Fn read_first A.shape A.knows S.is_of this.bytes.now (λ q. q.0) A.reads }
-    requires takes_second { StepTakes G.Fn read_second B.shape B.knows S.is_of this.bytes.now
-        (this.pos + size_of (tuple2 A.shape B.shape)) }
-    requires reads_second { StepReads G.Fn read_second B.shape B.knows S.is_of this.bytes.now
-        (λ q. q.0) B.reads }
-    ensures value { Deserializes (reads_tuple2 A.reads B.reads) (tuple2 A.shape B.shape)
-        (both A.knows B.knows) this.entry.bytes.now this.entry.pos result }
+    requires takes_first { StepTakesIn F.Fn read_first A.ReadBack S.is_of
+        (tuple2 A.shape B.shape) this }
+    requires reads_first { StepReadsBack F.Fn read_first A.ReadBack S.is_of this.bytes.now }
+    requires takes_second { StepTakesIn G.Fn read_second B.ReadBack S.is_of
+        (tuple2 A.shape B.shape) this }
+    requires reads_second { StepReadsBack G.Fn read_second B.ReadBack S.is_of this.bytes.now }
+    ensures value { DeserializesTuple2 A.ReadBack B.ReadBack this.entry result }
     ensures keeps { IfOk result (λ _. S.is_of deserializer.new this.entry.bytes.now) }
 {
     let t = match read_first(deserializer, ArchivedTuple2::first(this).pos) {

@@ -1,12 +1,9 @@
 //! Tuples of three fields are read back.
-ghost use Rattle.std.specs.Prelude.{◌+◌, IfOk};
-ghost use Rattle.archive_shape.specs.ShapeLayout.Shape.{size_of};
+ghost use Rattle.std.specs.Prelude.{IfOk};
 ghost use Rattle.archive_forms_values.specs.Tuples.{tuple3};
-ghost use Rattle.archive_forms_values.specs.Parts.{HasValue};
-ghost use Rattle.archive_forms_values.specs.Fields.{all_three};
-ghost use Rattle.archive_forms.specs.Deserializing.{Deserializes};
 ghost use Rattle.archive_forms.specs.Reading.{reads_tuple3};
-ghost use Rattle.archive_forms.specs.Steps.{StepTakes, StepReads};
+ghost use Rattle.archive_forms.specs.Calls.Forms.{HasTuple3, DeserializesTuple3};
+ghost use Rattle.archive_forms.specs.Calls.Steps.{StepTakesIn, StepReadsBack};
 
 use crate::deserializing::deserialize::deserialize_element;
 use crate::deserializing::{Deserialize, Deserializer, ReadBack};
@@ -35,21 +32,18 @@ pub fn deserialize_tuple3_each<
     read_second: G,
     read_third: H,
 ) -> Result<(T, U, V), Error>
-    requires there { HasValue (tuple3 A.shape B.shape C.shape) (all_three A.knows B.knows C.knows)
-        this.bytes.now this.pos }
+    requires there { HasTuple3 A.ReadBack B.ReadBack C.ReadBack this }
     requires kept { S.is_of deserializer.old this.bytes.now }
-    requires takes_first { StepTakes F.Fn read_first A.shape A.knows S.is_of this.bytes.now
-        (this.pos + size_of (tuple3 A.shape B.shape C.shape)) }
-    requires reads_first { StepReads F.Fn read_first A.shape A.knows S.is_of this.bytes.now (λ q. q.0) A.reads }
-    requires takes_second { StepTakes G.Fn read_second B.shape B.knows S.is_of this.bytes.now
-        (this.pos + size_of (tuple3 A.shape B.shape C.shape)) }
-    requires reads_second { StepReads G.Fn read_second B.shape B.knows S.is_of this.bytes.now
-        (λ q. q.0) B.reads }
-    requires takes_third { StepTakes H.Fn read_third C.shape C.knows S.is_of this.bytes.now
-        (this.pos + size_of (tuple3 A.shape B.shape C.shape)) }
-    requires reads_third { StepReads H.Fn read_third C.shape C.knows S.is_of this.bytes.now (λ q. q.0) C.reads }
-    ensures value { Deserializes (reads_tuple3 A.reads B.reads C.reads) (tuple3 A.shape B.shape C.shape)
-        (all_three A.knows B.knows C.knows) this.entry.bytes.now this.entry.pos result }
+    requires takes_first { StepTakesIn F.Fn read_first A.ReadBack S.is_of
+        (tuple3 A.shape B.shape C.shape) this }
+    requires reads_first { StepReadsBack F.Fn read_first A.ReadBack S.is_of this.bytes.now }
+    requires takes_second { StepTakesIn G.Fn read_second B.ReadBack S.is_of
+        (tuple3 A.shape B.shape C.shape) this }
+    requires reads_second { StepReadsBack G.Fn read_second B.ReadBack S.is_of this.bytes.now }
+    requires takes_third { StepTakesIn H.Fn read_third C.ReadBack S.is_of
+        (tuple3 A.shape B.shape C.shape) this }
+    requires reads_third { StepReadsBack H.Fn read_third C.ReadBack S.is_of this.bytes.now }
+    ensures value { DeserializesTuple3 A.ReadBack B.ReadBack C.ReadBack this.entry result }
     ensures keeps { IfOk result (λ _. S.is_of deserializer.new this.entry.bytes.now) }
 {
     let t = match read_first(deserializer, ArchivedTuple3::first(this).pos) {

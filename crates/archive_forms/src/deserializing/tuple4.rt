@@ -1,12 +1,9 @@
 //! Tuples of four fields are read back.
-ghost use Rattle.std.specs.Prelude.{◌+◌, IfOk};
-ghost use Rattle.archive_shape.specs.ShapeLayout.Shape.{size_of};
+ghost use Rattle.std.specs.Prelude.{IfOk};
 ghost use Rattle.archive_forms_values.specs.Tuples.{tuple4};
-ghost use Rattle.archive_forms_values.specs.Parts.{HasValue};
-ghost use Rattle.archive_forms_values.specs.Fields.{all_four};
-ghost use Rattle.archive_forms.specs.Deserializing.{Deserializes};
 ghost use Rattle.archive_forms.specs.Reading.{reads_tuple4};
-ghost use Rattle.archive_forms.specs.Steps.{StepTakes, StepReads};
+ghost use Rattle.archive_forms.specs.Calls.Forms.{HasTuple4, DeserializesTuple4};
+ghost use Rattle.archive_forms.specs.Calls.Steps.{StepTakesIn, StepReadsBack};
 
 use crate::deserializing::deserialize::deserialize_element;
 use crate::deserializing::{Deserialize, Deserializer, ReadBack};
@@ -39,26 +36,21 @@ pub fn deserialize_tuple4_each<
     read_third: H,
     read_fourth: I,
 ) -> Result<(T, U, V, W), Error>
-    requires there { HasValue (tuple4 A.shape B.shape C.shape D.shape)
-        (all_four A.knows B.knows C.knows D.knows) this.bytes.now this.pos }
+    requires there { HasTuple4 A.ReadBack B.ReadBack C.ReadBack D.ReadBack this }
     requires kept { S.is_of deserializer.old this.bytes.now }
-    requires takes_first { StepTakes F.Fn read_first A.shape A.knows S.is_of this.bytes.now
-        (this.pos + size_of (tuple4 A.shape B.shape C.shape D.shape)) }
-    requires reads_first { StepReads F.Fn read_first A.shape A.knows S.is_of this.bytes.now (λ q. q.0) A.reads }
-    requires takes_second { StepTakes G.Fn read_second B.shape B.knows S.is_of this.bytes.now
-        (this.pos + size_of (tuple4 A.shape B.shape C.shape D.shape)) }
-    requires reads_second { StepReads G.Fn read_second B.shape B.knows S.is_of this.bytes.now
-        (λ q. q.0) B.reads }
-    requires takes_third { StepTakes H.Fn read_third C.shape C.knows S.is_of this.bytes.now
-        (this.pos + size_of (tuple4 A.shape B.shape C.shape D.shape)) }
-    requires reads_third { StepReads H.Fn read_third C.shape C.knows S.is_of this.bytes.now (λ q. q.0) C.reads }
-    requires takes_fourth { StepTakes I.Fn read_fourth D.shape D.knows S.is_of this.bytes.now
-        (this.pos + size_of (tuple4 A.shape B.shape C.shape D.shape)) }
-    requires reads_fourth { StepReads I.Fn read_fourth D.shape D.knows S.is_of this.bytes.now
-        (λ q. q.0) D.reads }
-    ensures value { Deserializes (reads_tuple4 A.reads B.reads C.reads D.reads)
-        (tuple4 A.shape B.shape C.shape D.shape) (all_four A.knows B.knows C.knows D.knows)
-        this.entry.bytes.now this.entry.pos result }
+    requires takes_first { StepTakesIn F.Fn read_first A.ReadBack S.is_of
+        (tuple4 A.shape B.shape C.shape D.shape) this }
+    requires reads_first { StepReadsBack F.Fn read_first A.ReadBack S.is_of this.bytes.now }
+    requires takes_second { StepTakesIn G.Fn read_second B.ReadBack S.is_of
+        (tuple4 A.shape B.shape C.shape D.shape) this }
+    requires reads_second { StepReadsBack G.Fn read_second B.ReadBack S.is_of this.bytes.now }
+    requires takes_third { StepTakesIn H.Fn read_third C.ReadBack S.is_of
+        (tuple4 A.shape B.shape C.shape D.shape) this }
+    requires reads_third { StepReadsBack H.Fn read_third C.ReadBack S.is_of this.bytes.now }
+    requires takes_fourth { StepTakesIn I.Fn read_fourth D.ReadBack S.is_of
+        (tuple4 A.shape B.shape C.shape D.shape) this }
+    requires reads_fourth { StepReadsBack I.Fn read_fourth D.ReadBack S.is_of this.bytes.now }
+    ensures value { DeserializesTuple4 A.ReadBack B.ReadBack C.ReadBack D.ReadBack this.entry result }
     ensures keeps { IfOk result (λ _. S.is_of deserializer.new this.entry.bytes.now) }
 {
     let t = match read_first(deserializer, ArchivedTuple4::first(this).pos) {

@@ -1,8 +1,8 @@
 //! `DeserializeUnsized`, the trait of what archived boxes lead to and are read back as.
 ghost use Rattle.std.specs.Prelude.{◌≡◌, IfOk};
-ghost use Rattle.archive_shape.specs.ShapeLayout.Shape.Shape.{box};
+ghost use Rattle.archive_shape_layout.specs.Shape.Shape.{box};
 ghost use Rattle.archive_forms_values.specs.Parts.{HasValue};
-ghost use Rattle.archive_forms.specs.Deserializing.{Deserializes};
+ghost use Rattle.archive_forms.specs.Calls.Forms.{DeserializesAt};
 
 use crate::deserializing::{Deserializer, ReadBack};
 use archive_forms_writing::Archive;
@@ -25,8 +25,7 @@ pub trait DeserializeUnsized<B: Archive>: ArchivePointee {
     ) -> Result<B, Error>
         requires there { HasValue Self.Boxed.shape Self.Boxed.knows this.now.bytes.now this.now.pos }
         requires kept { Self.Pool.is_of deserializer.old this.now.bytes.now }
-        ensures value { Deserializes Self.Boxed.reads Self.Boxed.shape Self.Boxed.knows this.now.bytes.now
-            this.now.pos result }
+        ensures value { DeserializesAt Self.Boxed.ReadBack this.now result }
         ensures keeps { IfOk result (λ _. Self.Pool.is_of deserializer.new this.now.bytes.now) };
 
     /// The box is one of the layout.

@@ -1,10 +1,12 @@
 //! Vectors are read back.
 ghost use Rattle.std.specs.Prelude.{IfOk};
-ghost use Rattle.archive_shape.specs.ShapeLayout.Shape.Shape.{vector};
+ghost use Rattle.archive_shape_layout.specs.Shape.Shape.{vector};
 ghost use Rattle.archive_forms_values.specs.Parts.{HasValue};
-ghost use Rattle.archive_forms.specs.Deserializing.{Deserializes, DeserializesBy};
+ghost use Rattle.archive_forms.specs.Deserializing.{DeserializesBy};
 ghost use Rattle.archive_forms.specs.Reading.{reads_all, reads_in};
-ghost use Rattle.archive_forms.specs.Steps.{StepTakes, StepReads};
+ghost use Rattle.archive_forms.specs.Steps.{StepTakes};
+ghost use Rattle.archive_forms.specs.Calls.Forms.{DeserializesVec};
+ghost use Rattle.archive_forms.specs.Calls.Steps.{StepReadsBack};
 
 use crate::deserializing::deserialize::deserialize_element;
 use crate::deserializing::elements::deserialize_elements_each;
@@ -30,9 +32,8 @@ pub fn deserialize_vec_each<
     requires there { HasValue (vector A.shape) A.knows this.bytes.now this.pos }
     requires kept { D.is_of deserializer.old this.bytes.now }
     requires takes { StepTakes F.Fn step A.shape A.knows D.is_of this.bytes.now this.pos }
-    requires reads { StepReads F.Fn step A.shape A.knows D.is_of this.bytes.now (λ q. q.0) A.reads }
-    ensures value { Deserializes (reads_in (λ xs. xs.items) (reads_all A.reads)) (vector A.shape) A.knows
-        this.entry.bytes.now this.entry.pos result }
+    requires reads { StepReadsBack F.Fn step A.ReadBack D.is_of this.bytes.now }
+    ensures value { DeserializesVec A.ReadBack this.entry result }
     ensures keeps { IfOk result (λ _. D.is_of deserializer.new this.entry.bytes.now) }
 {
     deserialize_elements_each(ArchivedVec::as_slice(this), alloc, deserializer, step)

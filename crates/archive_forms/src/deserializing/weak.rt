@@ -1,14 +1,15 @@
 //! Weak pointers to values are read back.
-ghost use Rattle.std.specs.Prelude.{◌≡◌, ◌+◌, false, IfOk, IsSome, MatchOption, ⊤};
-ghost use Rattle.archive_shape.specs.ShapeLayout.Shape.Shape.{weak};
-ghost use Rattle.archive_shape.specs.ShapeLayout.Shape.Pointee.{sized};
-ghost use Rattle.archive_forms_rc.specs.Pointers.{IsRcAt};
+ghost use Rattle.std.specs.Prelude.{◌+◌, false, IfOk};
+ghost use Rattle.archive_shape_layout.specs.Shape.Shape.{weak};
+ghost use Rattle.archive_shape_layout.specs.Shape.Pointee.{sized};
 ghost use Rattle.archive_forms_values.specs.Parts.{HasValue};
-ghost use Rattle.archive_forms.specs.Deserializing.{Deserializes, DeserializesBy, IsReadAt};
-ghost use Rattle.archive_forms.specs.Reading.{reads_counted, reads_in};
-ghost use Rattle.archive_forms.specs.Keeping.{pool_of};
-ghost use Rattle.archive_forms.specs.Steps.{StepTakes, StepReads};
-ghost use Rattle.archive_forms.specs.Weak.{reads_weak, IsKeyedAt};
+ghost use Rattle.archive_forms.specs.Deserializing.{DeserializesBy};
+ghost use Rattle.archive_forms.specs.Steps.{StepTakes};
+ghost use Rattle.archive_forms.specs.Weak.{reads_weak};
+ghost use Rattle.archive_forms.specs.Reading.{reads_rc};
+ghost use Rattle.archive_forms.specs.Calls.Pointers.{DeserializesRcWeak, HasRcWeakKey};
+ghost use Rattle.archive_forms.specs.Calls.Pools.{value_pool_of, StaysOf, IsPooled, IfLed, ReusesAt};
+ghost use Rattle.archive_forms.specs.Calls.Steps.{StepReadsBack};
 
 use crate::deserializing::deserialize::deserialize_element;
 use crate::deserializing::{Deserialize, Keeps, ReadBack, SharedPool, deserialize_rc_each};
@@ -35,16 +36,12 @@ pub fn deserialize_rc_weak_each<
     requires there { HasValue (weak false (sized A.shape)) A.knows this.bytes.now this.pos }
     requires kept { D.is_of deserializer.old this.bytes.now }
     requires takes { StepTakes F.Fn step A.shape A.knows D.is_of this.bytes.now (this.pos + 4) }
-    requires reads { StepReads F.Fn step A.shape A.knows D.is_of this.bytes.now (λ q. q.0) A.reads }
-    ensures value { Deserializes (reads_weak (reads_in (λ x. x.value.value) (reads_counted A.reads)))
-        (weak false (sized A.shape)) A.knows this.entry.bytes.now this.entry.pos result }
-    ensures key { IfOk result (IsKeyedAt (sized A.shape) A.knows this.entry.bytes.now this.entry.pos
-        (λ x. IsRcAt false A.shape A.knows this.entry.bytes.now (this.entry.pos + 4) x.key)) }
+    requires reads { StepReadsBack F.Fn step A.ReadBack D.is_of this.bytes.now }
+    ensures value { DeserializesRcWeak A.ReadBack this.entry result }
+    ensures key { IfOk result (HasRcWeakKey A.ReadBack this.entry) }
     ensures keeps { IfOk result (λ _. D.is_of deserializer.new this.entry.bytes.now) }
-    ensures pooled { IfOk result (λ x. MatchOption x.shared ⊤ (λ led. MatchOption
-        (D.kept deserializer.new led.key) ⊥ (λ copy. copy.value ≡ led.value.value))) }
-    ensures unread { IfOk result (λ x. MatchOption x.shared ⊤ (λ led. IsSome
-        (D.kept deserializer.old led.key) → deserializer.new ≡ deserializer.old)) }
+    ensures pooled { IfOk result (IfLed (IsPooled (λ p. p.value) (D.kept deserializer.new))) }
+    ensures unread { IfOk result (IfLed (λ x. ReusesAt D.kept x.key deserializer.old deserializer.new)) }
 {
     let Some(_) = ArchivedRcWeak::upgrade(this) else {
         return Ok(SharedWeak { shared: None });
@@ -59,7 +56,7 @@ pub fn deserialize_rc_weak_each<
 }
 
 impl<T, A: ReadBack<T>> ReadBack<SharedWeak<Rc<T>>> for ArchivedRcWeak<A, RcFlavor> {
-    ghost reads = { reads_weak (reads_in (λ x. x.value.value) (reads_counted A.reads)) };
+    ghost reads = { reads_weak (reads_rc A.reads) };
 }
 
 impl<T: Archive + Drop, A: Deserialize<T>> Deserialize<SharedWeak<Rc<T>>>
@@ -72,12 +69,10 @@ impl<T: Archive + Drop, A: Deserialize<T>> Deserialize<SharedWeak<Rc<T>>>
         deserializer: &mut SharedPool<Rc<T>, A, A::Pool>,
     ) -> Result<SharedWeak<Rc<T>>, Error>
         requires there { HasValue (weak false (sized A.shape)) A.knows this.now.bytes.now this.now.pos }
-        requires kept { pool_of (λ bytes pos pointer. IsReadAt A.reads A.shape A.knows bytes pos pointer.value) A.Pool.is_of deserializer.old this.now.bytes.now }
-        ensures value { Deserializes (reads_weak (reads_in (λ x. x.value.value) (reads_counted A.reads)))
-            (weak false (sized A.shape)) A.knows this.now.bytes.now this.now.pos result }
-        ensures key { IfOk result (IsKeyedAt (sized A.shape) A.knows this.now.bytes.now this.now.pos
-            (λ x. IsRcAt false A.shape A.knows this.now.bytes.now (this.now.pos + 4) x.key)) }
-        ensures keeps { IfOk result (λ _. pool_of (λ bytes pos pointer. IsReadAt A.reads A.shape A.knows bytes pos pointer.value) A.Pool.is_of deserializer.new this.now.bytes.now) }
+        requires kept { value_pool_of A.ReadBack A.Pool.is_of deserializer.old this.now.bytes.now }
+        ensures value { DeserializesRcWeak A.ReadBack this.now result }
+        ensures key { IfOk result (HasRcWeakKey A.ReadBack this.now) }
+        ensures keeps { StaysOf (value_pool_of A.ReadBack A.Pool.is_of) deserializer.new this.now result }
     {
         let bytes = this.bytes;
         deserialize_rc_weak_each::<T, A, SharedPool<Rc<T>, A, A::Pool>, _>(
@@ -89,9 +84,9 @@ impl<T: Archive + Drop, A: Deserialize<T>> Deserialize<SharedWeak<Rc<T>>>
                 Error,
             >
                 requires there { HasValue A.shape A.knows bytes.now pos }
-                requires kept { pool_of (λ bytes pos pointer. IsReadAt A.reads A.shape A.knows bytes pos pointer.value) A.Pool.is_of d.old bytes.now }
+                requires kept { value_pool_of A.ReadBack A.Pool.is_of d.old bytes.now }
                 ensures value { DeserializesBy A.reads A.shape A.knows bytes.entry.now pos (λ q. q.0) result }
-                ensures keeps { IfOk result (λ _. pool_of (λ bytes pos pointer. IsReadAt A.reads A.shape A.knows bytes pos pointer.value) A.Pool.is_of d.new bytes.entry.now) }
+                ensures keeps { IfOk result (λ _. value_pool_of A.ReadBack A.Pool.is_of d.new bytes.entry.now) }
             { deserialize_element::<T, A>(bytes, pos, alloc, &mut d.inside) },
         )
     }

@@ -1,15 +1,14 @@
 //! Weak pointers to texts are read back.
-ghost use Rattle.std.specs.Prelude.{◌≡◌, ◌+◌, false, length, IfOk, MatchOption, ⊤};
+ghost use Rattle.std.specs.Prelude.{false, IfOk, ⊤};
 ghost use Rattle.std.specs.Rc.{rc_str_bytes};
-ghost use Rattle.archive_shape.specs.ShapeLayout.Shape.Shape.{weak};
-ghost use Rattle.archive_shape.specs.ShapeLayout.Shape.Pointee.{str};
+ghost use Rattle.archive_shape_layout.specs.Shape.Shape.{weak};
+ghost use Rattle.archive_shape_layout.specs.Shape.Pointee.{str};
 ghost use Rattle.archive_forms_rc.specs.Counted.{shared_str_rc_spelling};
-ghost use Rattle.archive_forms_rc.specs.Pointers.{IsRcStrAt};
 ghost use Rattle.archive_forms_values.specs.Parts.{HasValue};
-ghost use Rattle.archive_forms.specs.Deserializing.{Deserializes};
-ghost use Rattle.archive_forms.specs.Keeping.{IsTextAt, pool_of};
 ghost use Rattle.archive_forms.specs.Reading.{reads_as};
-ghost use Rattle.archive_forms.specs.Weak.{reads_weak, IsKeyedAt};
+ghost use Rattle.archive_forms.specs.Weak.{reads_weak};
+ghost use Rattle.archive_forms.specs.Calls.Pointers.{DeserializesRcWeakStr, HasRcWeakStrKey};
+ghost use Rattle.archive_forms.specs.Calls.Pools.{text_pool_of, StaysOf, IsPooled, IfLed, Reuses};
 
 use crate::deserializing::{Deserialize, Keeps, ReadBack, SharedPool, deserialize_rc_str};
 use archive_forms_rc::{ArchivedRcStr, ArchivedRcWeakStr, RcFlavor, SharedWeak};
@@ -26,16 +25,11 @@ pub fn deserialize_rc_weak_str<D: Keeps<RcStr, Str>>(
 ) -> Result<SharedWeak<RcStr>, Error>
     requires there { HasValue (weak false str) (λ _. ⊤) this.bytes.now this.pos }
     requires kept { D.is_of deserializer.old this.bytes.now }
-    ensures value { Deserializes (reads_weak (reads_as shared_str_rc_spelling)) (weak false str)
-        (λ _. ⊤) this.entry.bytes.now this.entry.pos result }
-    ensures key { IfOk result (IsKeyedAt str (λ _. ⊤) this.entry.bytes.now this.entry.pos
-        (λ x. IsRcStrAt false this.entry.bytes.now (this.entry.pos + 4) x.key (length (rc_str_bytes x.value)))) }
+    ensures value { DeserializesRcWeakStr this.entry result }
+    ensures key { IfOk result (HasRcWeakStrKey this.entry) }
     ensures keeps { IfOk result (λ _. D.is_of deserializer.new this.entry.bytes.now) }
-    ensures pooled { IfOk result (λ x. MatchOption x.shared ⊤ (λ led. MatchOption
-        (D.kept deserializer.new led.key) ⊥ (λ copy. rc_str_bytes copy ≡ rc_str_bytes led.value))) }
-    ensures unread { IfOk result (λ x. MatchOption x.shared ⊤ (λ led. MatchOption
-        (D.kept deserializer.old led.key) ⊤ (λ copy. length (rc_str_bytes copy) ≡ length (rc_str_bytes led.value)
-        → deserializer.new ≡ deserializer.old))) }
+    ensures pooled { IfOk result (IfLed (IsPooled rc_str_bytes (D.kept deserializer.new))) }
+    ensures unread { IfOk result (IfLed (Reuses rc_str_bytes D.kept deserializer.old deserializer.new)) }
 {
     let Some(_) = ArchivedRcWeakStr::upgrade(this) else {
         return Ok(SharedWeak { shared: None });
@@ -62,12 +56,10 @@ impl Deserialize<SharedWeak<RcStr>> for ArchivedRcWeakStr<RcFlavor> {
         deserializer: &mut SharedPool<RcStr, Str, ()>,
     ) -> Result<SharedWeak<RcStr>, Error>
         requires there { HasValue (weak false str) (λ _. ⊤) this.now.bytes.now this.now.pos }
-        requires kept { pool_of (λ bytes pos pointer. IsTextAt bytes pos (rc_str_bytes pointer)) (λ _ _. ⊤) deserializer.old this.now.bytes.now }
-        ensures value { Deserializes (reads_weak (reads_as shared_str_rc_spelling)) (weak false str)
-            (λ _. ⊤) this.now.bytes.now this.now.pos result }
-        ensures key { IfOk result (IsKeyedAt str (λ _. ⊤) this.now.bytes.now this.now.pos
-            (λ x. IsRcStrAt false this.now.bytes.now (this.now.pos + 4) x.key (length (rc_str_bytes x.value)))) }
-        ensures keeps { IfOk result (λ _. pool_of (λ bytes pos pointer. IsTextAt bytes pos (rc_str_bytes pointer)) (λ _ _. ⊤) deserializer.new this.now.bytes.now) }
+        requires kept { text_pool_of deserializer.old this.now.bytes.now }
+        ensures value { DeserializesRcWeakStr this.now result }
+        ensures key { IfOk result (HasRcWeakStrKey this.now) }
+        ensures keeps { StaysOf text_pool_of deserializer.new this.now result }
     {
         deserialize_rc_weak_str(*this, alloc, deserializer)
     }

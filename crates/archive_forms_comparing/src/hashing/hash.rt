@@ -1,9 +1,8 @@
 //! `ArchivedHash`, the hashing of archived values.
-ghost use Rattle.std.specs.List.{fold};
 ghost use Rattle.std.specs.Hash.{Alike};
 ghost use Rattle.archive_forms_laws.specs.Orders.{Hashed};
 ghost use Rattle.archive_forms_values.specs.Parts.{HasValue};
-ghost use Rattle.archive_forms_comparing.specs.Compared.{OfValue};
+ghost use Rattle.archive_forms_comparing.specs.Calls.Comparing.{Hashes};
 
 use crate::ArchivedEq;
 use archive_shape::Ref;
@@ -18,8 +17,7 @@ pub trait ArchivedHash: ArchivedEq {
     /// Feeds the value to the hasher.
     fn hash<H: Hasher>(this: &Ref<'_, Self>, state: &mut H)
         requires { HasValue Self.shape Self.knows this.now.bytes.now this.now.pos }
-        ensures { OfValue Self.shape Self.knows this.now.bytes.now this.now.pos
-            (λ v. fold H.write state.old (hashed v)) state.new };
+        ensures { Hashes Self.shape Self.knows this.now H.write hashed state.old state.new };
 
     /// Equal values feed the same to the hasher.
     ghost alike: { Alike Self.equal hashed };

@@ -1,10 +1,8 @@
 //! Vectors, arrays and boxes of slices are hashed: the number of elements first, and then each element.
-ghost use Rattle.std.specs.Prelude.{◌≡◌};
-ghost use Rattle.std.specs.List.{fold};
-ghost use Rattle.archive_shape.specs.ShapeLayout.Value.{Value};
 ghost use Rattle.archive_forms_laws.specs.Orders.{vector_hashed};
 ghost use Rattle.archive_forms_laws.proofs.Forms.{alike};
-ghost use Rattle.archive_forms_values.specs.Parts.{HasElements, AreElements};
+ghost use Rattle.archive_forms_values.specs.Parts.{HasElements};
+ghost use Rattle.archive_forms_comparing.specs.Calls.Comparing.{HashesElements};
 
 use crate::hashing::ArchivedHash;
 use crate::{array_elements, boxed_elements, element, vector_elements};
@@ -15,8 +13,7 @@ use std::hash::Hasher;
 /// Feeds the number of elements to the hasher, and then each element.
 pub fn hash_elements<T: ArchivedHash, H: Hasher>(elements: &SliceRef<'_, T>, state: &mut H)
     requires { HasElements T.shape T.knows elements.now.bytes.now elements.now.pos elements.now.len }
-    ensures { (v : Value) → AreElements T.shape T.knows elements.now.bytes.now elements.now.pos
-        elements.now.len v → state.new ≡ fold H.write state.old (vector_hashed T.hashed v) }
+    ensures { HashesElements T.shape T.knows elements.now H.write T.hashed state.old state.new }
 {
     state.write_usize(elements.len());
     for index in 0..elements.len() {

@@ -5,13 +5,13 @@ ghost use Rattle.archive_shape_layout.specs.Shape.Pointee.{sized, slice, str};
 ghost use Rattle.archive_forms_laws.specs.Serializing.{CanResolve, Resolves};
 ghost use Rattle.archive_forms_rc.specs.Counted.{shared_rc_spelling, shared_slice_rc_spelling, shared_str_rc_spelling};
 ghost use Rattle.archive_forms_laws.proofs.Views.{kept_spells};
-ghost use Rattle.archive_forms_borrowed.proofs.Shared.{seen_value_spells, seen_slice_spells, seen_text_spells};
+ghost use Rattle.archive_forms_writing.proofs.Shared.{seen_value_spells, seen_slice_spells, seen_text_spells};
 ghost use Rattle.std.specs.Rc.{rc_slice_items, rc_str_bytes};
 
 use crate::sharing::{SharingExt, serialize_rc_from_ref};
 use crate::{ArchivedRc, ArchivedRcSlice, ArchivedRcStr, RcFlavor, RcResolver};
 use archive_forms_writing::{Archive, Serialize};
-use archive_shape::{Error, Place};
+use archive_shape::{Error, Place, Portable};
 use std::rc::{Rc, RcSlice, RcStr};
 
 /// A counted pointer, and the key of its value. Pointers to one value have one key, and no other value of any type has
@@ -143,5 +143,82 @@ impl<S: SharingExt> Serialize<S> for Shared<RcStr> {
     fn serialize(&self, serializer: &mut S) -> Result<RcResolver, Error> {
         let text: &str = &*self.value;
         serialize_rc_from_ref(self.key, &text, serializer)
+    }
+}
+
+impl<T: Portable> ArchivedRc<T, RcFlavor> {
+    /// Writes the counted pointer to a value at `out`, where the bytes are zeros. The resolver was made of the same
+    /// value.
+    ///
+    /// Returns `IsizeOverflow` if the offset does not fit in an `i32`.
+    pub fn resolve_from_ref<U: Archive<Archived = T>>(
+        value: &Shared<Rc<U>>,
+        resolver: RcResolver,
+        out: Place<'_, ArchivedRc<T, RcFlavor>>,
+    ) -> Result<(), Error>
+        requires { CanResolve (shared_rc_spelling T.shape U.spelling) (shared false (sized T.shape))
+            value.now resolver out.out.now out.start out.pos }
+        ensures { Resolves (shared_rc_spelling T.shape U.spelling) (shared false (sized T.shape))
+            value.now resolver out.entry.pos out.entry.start out.entry.out.now out.exit.0.now result }
+    {
+        let Place {
+            out,
+            start,
+            pos,
+            ..
+        } = out;
+        value.resolve(resolver, Place::within(out, start, pos))
+    }
+}
+
+impl<T: Portable> ArchivedRcSlice<T, RcFlavor> {
+    /// Writes the counted pointer to elements at `out`, where the bytes are zeros. The resolver was made of the same
+    /// elements.
+    ///
+    /// Returns `LengthTooLarge` if there are more than 2^32 - 1, and otherwise `IsizeOverflow` if the offset does not
+    /// fit in an `i32`.
+    pub fn resolve_from_ref<U: Archive<Archived = T>>(
+        value: &Shared<RcSlice<U>>,
+        resolver: RcResolver,
+        out: Place<'_, ArchivedRcSlice<T, RcFlavor>>,
+    ) -> Result<(), Error>
+        requires { CanResolve (shared_slice_rc_spelling T.shape U.spelling) (shared false (slice T.shape))
+            value.now resolver out.out.now out.start out.pos }
+        ensures { Resolves (shared_slice_rc_spelling T.shape U.spelling) (shared false (slice T.shape))
+            value.now resolver out.entry.pos out.entry.start out.entry.out.now out.exit.0.now result }
+    {
+        let Place {
+            out,
+            start,
+            pos,
+            ..
+        } = out;
+        value.resolve(resolver, Place::within(out, start, pos))
+    }
+}
+
+impl ArchivedRcStr<RcFlavor> {
+    /// Writes the counted pointer to a text at `out`, where the bytes are zeros. The resolver was made of the same
+    /// text.
+    ///
+    /// Returns `LengthTooLarge` if it has more than 2^32 - 1 bytes, and otherwise `IsizeOverflow` if the offset does not
+    /// fit in an `i32`.
+    pub fn resolve_from_ref(
+        value: &Shared<RcStr>,
+        resolver: RcResolver,
+        out: Place<'_, ArchivedRcStr<RcFlavor>>,
+    ) -> Result<(), Error>
+        requires { CanResolve shared_str_rc_spelling (shared false str) value.now resolver out.out.now
+            out.start out.pos }
+        ensures { Resolves shared_str_rc_spelling (shared false str) value.now resolver out.entry.pos
+            out.entry.start out.entry.out.now out.exit.0.now result }
+    {
+        let Place {
+            out,
+            start,
+            pos,
+            ..
+        } = out;
+        value.resolve(resolver, Place::within(out, start, pos))
     }
 }

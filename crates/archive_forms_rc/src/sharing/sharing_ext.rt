@@ -5,7 +5,7 @@ ghost use Rattle.archive_forms_laws.specs.Serializing.{HasState, Serializes};
 ghost use Rattle.archive_forms_rc.specs.Counted.{rc_of};
 
 use crate::RcResolver;
-use archive_forms_borrowed::SerializeUnsized;
+use archive_forms_writing::SerializeUnsized;
 use archive_shape::{Allocator, Error, Writer};
 
 /// A serializer that shared values can be written with.

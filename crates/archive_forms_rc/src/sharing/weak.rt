@@ -7,8 +7,8 @@ ghost use Rattle.archive_forms_laws.specs.Serializing.{CanResolve, HasState, Res
 ghost use Rattle.archive_forms_rc.specs.Counted.{shared_weak_spelling, shared_weak_slice_spelling, shared_weak_str_spelling, weak_rc_spelling, weak_slice_rc_spelling, weak_str_rc_spelling};
 ghost use Rattle.archive_forms_rc.specs.WeakResolvers.{weak_resolver, counted_resolver};
 ghost use Rattle.archive_forms_laws.proofs.Views.{kept_spells, seen_spells};
-ghost use Rattle.archive_forms_borrowed.proofs.Shared.{seen_value_spells, seen_slice_spells, seen_text_spells};
-ghost use Rattle.archive_forms_borrowed.proofs.Weak.{weak_spells};
+ghost use Rattle.archive_forms_writing.proofs.Shared.{seen_value_spells, seen_slice_spells, seen_text_spells};
+ghost use Rattle.archive_forms_writing.proofs.Weak.{weak_spells};
 
 use crate::sharing::{Shared, SharingExt};
 use crate::{ArchivedRcWeak, ArchivedRcWeakSlice, ArchivedRcWeakStr, RcFlavor, RcWeakResolver};

@@ -3,10 +3,10 @@ ghost use Rattle.std.specs.Prelude.{◌<◌, ◌^◌};
 
 use super::is_archived_as;
 use super::serializer::MemorySerializer;
-use archive_forms_borrowed::{
+use archive_forms_values::VecResolver;
+use archive_forms_writing::{
     EntryAdapter, resolve_from_slice, serialize_from_iter, serialize_from_slice,
 };
-use archive_forms_values::VecResolver;
 use archive_shape::{Error, Place};
 use std::alloc::Global;
 

@@ -1,7 +1,7 @@
 //! `MemorySerializer`, a serializer that writes to memory.
 ghost use Rattle.std.specs.Prelude.{◌≡◌, true, false, vec_len};
-ghost use Rattle.archive_shape_writing.specs.Progress.Progress.{unmet};
-ghost use Rattle.archive_shape_writing.specs.declared.error.Error.TheVariants.{OutOfMemory};
+ghost use Rattle.archive_shape_layout.specs.Progress.Progress.{unmet};
+ghost use Rattle.archive_shape_layout.specs.declared.error.Error.TheVariants.{OutOfMemory};
 
 use archive_shape::{Allocator, Error, Positional, Registry, Writer};
 use std::alloc::Global;

@@ -5,7 +5,7 @@ ghost use Rattle.archive_shape_layout.specs.Shape.Shape.{box};
 ghost use Rattle.archive_shape.specs.Bytes.{zeros};
 
 use super::serializer::MemorySerializer;
-use archive_forms_borrowed::{SerializeUnsized, resolve_from_ref, serialize_from_ref};
+use archive_forms_writing::{SerializeUnsized, resolve_from_ref, serialize_from_ref};
 use archive_shape::Place;
 use std::alloc::Global;
 

@@ -1,15 +1,15 @@
 //! `ArchivedBoxedSlice`, a pointer to elements: its layout, its check and the methods that read it.
-ghost use Rattle.std.specs.Prelude.{◌≡◌, ℕ, ◌+◌, ◌≤◌, ◌↔◌, IsTrue, length};
+ghost use Rattle.std.specs.Prelude.{◌≡◌, ℕ, ◌+◌, ◌≤◌, length};
 ghost use Rattle.std.proofs.Common.{refl, lit<, lit≤};
 ghost use Rattle.archive_shape_layout.specs.Shape.Shape.{box};
 ghost use Rattle.archive_shape_layout.specs.Shape.Pointee.{slice};
-ghost use Rattle.archive_shape_layout.specs.Content.{Names};
-ghost use Rattle.archive_shape_layout.specs.Content.Part.{at};
 ghost use Rattle.archive_shape.specs.Kept.{IsWithin};
-ghost use Rattle.archive_shape.specs.Checks.{Checks, Moves};
+ghost use Rattle.archive_shape.specs.Checks.{Moves};
 ghost use Rattle.archive_shape.specs.Steps.{StepTakes, StepChecks};
 ghost use Rattle.archive_forms_values.specs.Parts.{HasValue};
 ghost use Rattle.archive_forms_values.specs.Boxes.{IsBoxedSliceAt};
+ghost use Rattle.archive_forms_values.specs.Calls.Checking.{ChecksBox};
+ghost use Rattle.archive_forms_values.specs.Calls.Reading.{TellsEmpty};
 
 use crate::checking::check_vec_each;
 use crate::reading::{ArchivedVec, SliceRef, SliceSeal};
@@ -72,8 +72,7 @@ pub fn check_boxed_slice_each<
     requires takes { StepTakes F.Fn C.kept bytes.now T.shape step (C.kept context.old) T.SIZE }
     requires checks { StepChecks F.Fn C.kept bytes.now T.shape step T.knows }
     ensures moves { Moves (C.kept context.old) result (C.kept context.new) }
-    ensures exact { (names : Names) → T.knows names
-        → Checks names bytes.now (at pos (box (slice T.shape))) (C.kept context.old) result (C.kept context.new) }
+    ensures exact { ChecksBox C.kept T.knows bytes.now pos (slice T.shape) context.old result context.new }
 {
     check_vec_each::<T, C, F>(bytes, pos, context, step)
 }
@@ -124,8 +123,7 @@ impl<T: Portable> ArchivedBoxedSlice<T> {
     /// Returns `true` if the box has no elements.
     pub fn is_empty(this: Ref<'_, ArchivedBoxedSlice<T>>) -> bool
         requires { HasValue (box (slice T.shape)) T.knows this.bytes.now this.pos }
-        ensures { (to len : ℕ) × IsBoxedSliceAt T.shape T.knows this.entry.bytes.now
-            this.entry.pos to len × (IsTrue result ↔ (len ≡ 0)) }
+        ensures { TellsEmpty (IsBoxedSliceAt T.shape T.knows) this.entry result }
     {
         ArchivedBoxedSlice::len(this) == 0
     }

@@ -1,12 +1,11 @@
 //! `ArchivedBoxedStr`, a pointer to the bytes of a text: its layout, its check and the methods that read it.
 ghost use Rattle.std.specs.Prelude.{◌≡◌, ℕ, length, [], refl, ⊤};
 ghost use Rattle.std.proofs.Common.{lit<, lit≤};
-ghost use Rattle.archive_shape_layout.specs.Bytes.{window};
 ghost use Rattle.archive_shape_layout.specs.Shape.Shape.{box};
 ghost use Rattle.archive_shape_layout.specs.Shape.Pointee.{str};
-ghost use Rattle.archive_shape.specs.Bytes.{overwrite};
 ghost use Rattle.archive_forms_values.specs.Parts.{HasValue};
 ghost use Rattle.archive_forms_values.specs.Boxes.{IsBoxedStrAt};
+ghost use Rattle.archive_forms_values.specs.Calls.Texts.{ReadsBoxedStr, WritesText};
 
 use crate::reading::target_of;
 use crate::text::{check_behind, write_at};
@@ -76,8 +75,7 @@ impl ArchivedBoxedStr {
     /// Returns the text.
     pub fn get<'a>(this: Ref<'a, ArchivedBoxedStr>) -> &'a str
         requires { HasValue (box str) (λ _. ⊤) this.bytes.now this.pos }
-        ensures { (to len : ℕ) × IsBoxedStrAt this.entry.bytes.now this.entry.pos to len
-            × (result.now ≡ window this.entry.bytes.now to len) }
+        ensures { ReadsBoxedStr this.entry result.now }
     {
         let (start, len) = text_at(this.bytes, this.pos);
         // The bytes there are UTF-8.
@@ -101,8 +99,7 @@ impl ArchivedBoxedStr {
     pub fn write_text(this: Seal<'_, ArchivedBoxedStr>, text: &str)
         requires there { HasValue (box str) (λ _. ⊤) this.bytes.now this.pos }
         requires same_length { (to : ℕ) × IsBoxedStrAt this.bytes.now this.pos to (length text.now) }
-        ensures { (to : ℕ) × IsBoxedStrAt this.entry.bytes.now this.entry.pos to (length text.now)
-            × (this.exit.0.now ≡ overwrite this.entry.bytes.now to text.now) }
+        ensures { WritesText IsBoxedStrAt this.entry text.now this.exit.0.now }
     {
         let Seal { bytes, pos, .. } = this;
         let (start, _) = text_at(bytes, pos);

@@ -1,14 +1,11 @@
 //! The writing of boxes of slices and of texts, once the position of their elements or bytes is known.
-ghost use Rattle.std.specs.Prelude.{◌≡◌, ◌+◌, ◌^◌, ◌<◌, ◌≤◌, ◌++◌, ◌⊎◌, length, MatchResult};
-ghost use Rattle.std.specs.Int.{w32, to_le_bytes};
-ghost use Rattle.archive_shape.specs.Bytes.{overwrite};
-ghost use Rattle.archive_shape_writing.specs.declared.error.Error.TheVariants.{IsizeOverflow, LengthTooLarge};
-ghost use Rattle.archive_shape.specs.Offsets.{FitsOffset, offset_bytes};
+ghost use Rattle.std.specs.Prelude.{◌+◌, ◌≤◌, length};
+ghost use Rattle.archive_forms_values.specs.Calls.Writing.{ResolvesElements};
 
 use crate::boxed::{ArchivedBoxedSlice, ArchivedBoxedStr};
 use crate::reading::{ArchivedVec, BoxResolver, VecResolver};
 use archive_shape::{Place, Portable};
-use archive_shape_writing::Error;
+use archive_shape_layout::Error;
 
 impl<T: Portable> ArchivedBoxedSlice<T> {
     /// Writes the box of `len` elements, which lie at the resolver's position.
@@ -21,11 +18,7 @@ impl<T: Portable> ArchivedBoxedSlice<T> {
         out: Place<'_, ArchivedBoxedSlice<T>>,
     ) -> Result<(), Error>
         requires { out.start + 8 ≤ length out.out.now }
-        ensures { MatchResult result
-            (λ _. (FitsOffset out.entry.pos resolver.pos × (len < 2 ^ 32))
-            × (out.exit.0.now ≡ overwrite out.entry.out.now out.entry.start (offset_bytes out.entry.pos resolver.pos ++ to_le_bytes w32 len)))
-            (λ e. (((e ≡ LengthTooLarge) × (2 ^ 32 ≤ len)) ⊎ ((e ≡ IsizeOverflow) × (len < 2 ^ 32) × (FitsOffset out.entry.pos resolver.pos → ⊥)))
-            × (out.exit.0.now ≡ out.entry.out.now)) }
+        ensures { ResolvesElements resolver.pos len out.entry result out.exit.0.now }
     {
         let Place {
             out,
@@ -52,11 +45,7 @@ impl ArchivedBoxedStr {
         out: Place<'_, ArchivedBoxedStr>,
     ) -> Result<(), Error>
         requires { out.start + 8 ≤ length out.out.now }
-        ensures { MatchResult result
-            (λ _. (FitsOffset out.entry.pos resolver.pos × (len < 2 ^ 32))
-            × (out.exit.0.now ≡ overwrite out.entry.out.now out.entry.start (offset_bytes out.entry.pos resolver.pos ++ to_le_bytes w32 len)))
-            (λ e. (((e ≡ LengthTooLarge) × (2 ^ 32 ≤ len)) ⊎ ((e ≡ IsizeOverflow) × (len < 2 ^ 32) × (FitsOffset out.entry.pos resolver.pos → ⊥)))
-            × (out.exit.0.now ≡ out.entry.out.now)) }
+        ensures { ResolvesElements resolver.pos len out.entry result out.exit.0.now }
     {
         let Place {
             out,

@@ -1,12 +1,10 @@
 //! The checks of boxes, and of a value that a pointer leads to.
 ghost use Rattle.std.specs.Prelude.{ℕ, ◌+◌, ◌≤◌, length};
-ghost use Rattle.archive_shape_layout.specs.Shape.Shape.{box};
 ghost use Rattle.archive_shape_layout.specs.Shape.Pointee.{sized};
-ghost use Rattle.archive_shape_layout.specs.Content.{Names};
-ghost use Rattle.archive_shape_layout.specs.Content.Part.{at, behind};
 ghost use Rattle.archive_shape.specs.Kept.{IsWithin};
-ghost use Rattle.archive_shape.specs.Checks.{Checks, Moves};
+ghost use Rattle.archive_shape.specs.Checks.{Moves};
 ghost use Rattle.archive_shape.specs.Steps.{StepTakes, StepChecks};
+ghost use Rattle.archive_forms_values.specs.Calls.Checking.{ChecksBox, ChecksTarget};
 
 use archive_shape::{ArchiveContext, Error, Portable, RawRelPtrI32, Ref};
 
@@ -25,8 +23,7 @@ pub fn check_behind_each<T: Portable, C: ArchiveContext, F: Fn(&mut C, usize) ->
     requires takes { StepTakes F.Fn C.kept bytes.now T.shape step (C.kept context.old) T.SIZE }
     requires checks { StepChecks F.Fn C.kept bytes.now T.shape step T.knows }
     ensures moves { Moves (C.kept context.old) result (C.kept context.new) }
-    ensures exact { (names : Names) → T.knows names
-        → Checks names bytes.now (behind target (sized T.shape) 1) (C.kept context.old) result (C.kept context.new) }
+    ensures exact { ChecksTarget C.kept T.knows bytes.now target T.shape context.old result context.new }
 {
     let _len = bytes.len();
     let size = T::SIZE;
@@ -54,8 +51,7 @@ pub fn check_box_each<T: Portable, C: ArchiveContext, F: Fn(&mut C, usize) -> Re
     requires takes { StepTakes F.Fn C.kept bytes.now T.shape step (C.kept context.old) T.SIZE }
     requires checks { StepChecks F.Fn C.kept bytes.now T.shape step T.knows }
     ensures moves { Moves (C.kept context.old) result (C.kept context.new) }
-    ensures exact { (names : Names) → T.knows names
-        → Checks names bytes.now (at pos (box (sized T.shape))) (C.kept context.old) result (C.kept context.new) }
+    ensures exact { ChecksBox C.kept T.knows bytes.now pos (sized T.shape) context.old result context.new }
 {
     let _len = bytes.len();
     let size = T::SIZE;

@@ -3,11 +3,10 @@ ghost use Rattle.std.specs.Prelude.{◌≡◌, ℕ, ◌+◌, ◌-◌, ◌^◌, �
 ghost use Rattle.archive_shape_layout.specs.Bytes.{align_up};
 ghost use Rattle.archive_shape_layout.specs.Shape.{size_of};
 ghost use Rattle.archive_shape_layout.specs.Shape.Shape.{option};
-ghost use Rattle.archive_shape_layout.specs.Content.{Names};
-ghost use Rattle.archive_shape_layout.specs.Content.Part.{at};
 ghost use Rattle.archive_shape.specs.Kept.{IsWithin};
-ghost use Rattle.archive_shape.specs.Checks.{Checks, Moves};
-ghost use Rattle.archive_shape.specs.Steps.{StepTakes, StepChecks};
+ghost use Rattle.archive_shape.specs.Checks.{ChecksAt, Moves};
+ghost use Rattle.archive_shape.specs.Steps.{StepChecks};
+ghost use Rattle.archive_forms_values.specs.Calls.Checking.{TakesPart};
 
 use archive_shape::{ArchiveContext, Error, Portable};
 
@@ -23,11 +22,10 @@ pub fn check_option_each<T: Portable, C: ArchiveContext, F: Fn(&mut C, usize) ->
 ) -> Result<(), Error>
     requires fits { pos + size_of (option T.shape) ≤ length bytes.now }
     requires range { IsWithin (C.kept context.old) (length bytes.now) }
-    requires takes { StepTakes F.Fn C.kept bytes.now T.shape step (C.kept context.old) 0 }
+    requires takes { TakesPart F.Fn C.kept bytes.now T.shape step context.old }
     requires checks { StepChecks F.Fn C.kept bytes.now T.shape step T.knows }
     ensures moves { Moves (C.kept context.old) result (C.kept context.new) }
-    ensures exact { (names : Names) → T.knows names
-        → Checks names bytes.now (at pos (option T.shape)) (C.kept context.old) result (C.kept context.new) }
+    ensures exact { ChecksAt C.kept T.knows bytes.now pos (option T.shape) context.old result context.new }
 {
     let _len = bytes.len();
     let offset = T::ALIGN;

@@ -3,11 +3,10 @@ ghost use Rattle.std.specs.Prelude.{◌≡◌, ℕ, ◌+◌, ◌-◌, ◌^◌, �
 ghost use Rattle.archive_shape_layout.specs.Bytes.{align_up};
 ghost use Rattle.archive_shape_layout.specs.Shape.{size_of};
 ghost use Rattle.archive_shape_layout.specs.Shape.Shape.{result as result_shape};
-ghost use Rattle.archive_shape_layout.specs.Content.{Names};
-ghost use Rattle.archive_shape_layout.specs.Content.Part.{at};
 ghost use Rattle.archive_shape.specs.Kept.{IsWithin};
-ghost use Rattle.archive_shape.specs.Checks.{Checks, Moves};
-ghost use Rattle.archive_shape.specs.Steps.{StepTakes, StepChecks};
+ghost use Rattle.archive_shape.specs.Checks.{Moves};
+ghost use Rattle.archive_shape.specs.Steps.{StepChecks};
+ghost use Rattle.archive_forms_values.specs.Calls.Checking.{ChecksResult, TakesPart};
 
 use archive_shape::{ArchiveContext, Error, Portable};
 
@@ -25,13 +24,12 @@ pub fn check_result_each<
 >(bytes: &[u8], pos: usize, context: &mut C, value_step: F, error_step: G) -> Result<(), Error>
     requires fits { pos + size_of (result_shape T.shape E.shape) ≤ length bytes.now }
     requires range { IsWithin (C.kept context.old) (length bytes.now) }
-    requires takes_value { StepTakes F.Fn C.kept bytes.now T.shape value_step (C.kept context.old) 0 }
-    requires takes_error { StepTakes G.Fn C.kept bytes.now E.shape error_step (C.kept context.old) 0 }
+    requires takes_value { TakesPart F.Fn C.kept bytes.now T.shape value_step context.old }
+    requires takes_error { TakesPart G.Fn C.kept bytes.now E.shape error_step context.old }
     requires checks_value { StepChecks F.Fn C.kept bytes.now T.shape value_step T.knows }
     requires checks_error { StepChecks G.Fn C.kept bytes.now E.shape error_step E.knows }
     ensures moves { Moves (C.kept context.old) result (C.kept context.new) }
-    ensures exact { (names : Names) → T.knows names → E.knows names
-        → Checks names bytes.now (at pos (result_shape T.shape E.shape)) (C.kept context.old) result (C.kept context.new) }
+    ensures exact { ChecksResult C.kept T.knows E.knows bytes.now pos T.shape E.shape context.old result context.new }
 {
     let _len = bytes.len();
     let value_align = T::ALIGN;

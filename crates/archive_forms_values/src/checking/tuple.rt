@@ -2,12 +2,11 @@
 ghost use Rattle.std.specs.Prelude.{◌≡◌, ℕ, ◌+◌, ◌-◌, ◌^◌, ◌<◌, ◌≤◌, min, length};
 ghost use Rattle.archive_shape_layout.specs.Bytes.{align_up};
 ghost use Rattle.archive_shape_layout.specs.Shape.{size_of};
-ghost use Rattle.archive_shape_layout.specs.Content.{Names};
-ghost use Rattle.archive_shape_layout.specs.Content.Part.{at};
 ghost use Rattle.archive_shape.specs.Kept.{IsWithin};
-ghost use Rattle.archive_shape.specs.Checks.{Checks, Moves};
-ghost use Rattle.archive_shape.specs.Steps.{StepTakes, StepChecks};
+ghost use Rattle.archive_shape.specs.Checks.{Moves};
+ghost use Rattle.archive_shape.specs.Steps.{StepChecks};
 ghost use Rattle.archive_forms_values.specs.Tuples.{tuple1, tuple2};
+ghost use Rattle.archive_forms_values.specs.Calls.Checking.{ChecksTuple1, ChecksTuple2, TakesPart};
 
 use crate::checking::next_multiple;
 use archive_shape::{ArchiveContext, Error, Portable};
@@ -20,12 +19,10 @@ pub fn check_tuple1_each<
 >(bytes: &[u8], pos: usize, context: &mut Context, first_step: F) -> Result<(), Error>
     requires fits { pos + size_of (tuple1 A.shape) ≤ length bytes.now }
     requires range { IsWithin (Context.kept context.old) (length bytes.now) }
-    requires takes_first { StepTakes F.Fn Context.kept bytes.now A.shape first_step
-        (Context.kept context.old) 0 }
+    requires takes_first { TakesPart F.Fn Context.kept bytes.now A.shape first_step context.old }
     requires checks_first { StepChecks F.Fn Context.kept bytes.now A.shape first_step A.knows }
     ensures moves { Moves (Context.kept context.old) result (Context.kept context.new) }
-    ensures exact { (names : Names) → A.knows names
-        → Checks names bytes.now (at pos (tuple1 A.shape)) (Context.kept context.old) result (Context.kept context.new) }
+    ensures exact { ChecksTuple1 Context.kept A.knows bytes.now pos A.shape context.old result context.new }
 {
     first_step(context, pos)
 }
@@ -41,13 +38,12 @@ pub fn check_tuple2_each<
 >(bytes: &[u8], pos: usize, context: &mut C, first_step: F, second_step: G) -> Result<(), Error>
     requires fits { pos + size_of (tuple2 A.shape B.shape) ≤ length bytes.now }
     requires range { IsWithin (C.kept context.old) (length bytes.now) }
-    requires takes_first { StepTakes F.Fn C.kept bytes.now A.shape first_step (C.kept context.old) 0 }
-    requires takes_second { StepTakes G.Fn C.kept bytes.now B.shape second_step (C.kept context.old) 0 }
+    requires takes_first { TakesPart F.Fn C.kept bytes.now A.shape first_step context.old }
+    requires takes_second { TakesPart G.Fn C.kept bytes.now B.shape second_step context.old }
     requires checks_first { StepChecks F.Fn C.kept bytes.now A.shape first_step A.knows }
     requires checks_second { StepChecks G.Fn C.kept bytes.now B.shape second_step B.knows }
     ensures moves { Moves (C.kept context.old) result (C.kept context.new) }
-    ensures exact { (names : Names) → A.knows names → B.knows names
-        → Checks names bytes.now (at pos (tuple2 A.shape B.shape)) (C.kept context.old) result (C.kept context.new) }
+    ensures exact { ChecksTuple2 C.kept A.knows B.knows bytes.now pos A.shape B.shape context.old result context.new }
 {
     let _len = bytes.len();
     let offset = next_multiple(A::SIZE, B::ALIGN);

@@ -2,12 +2,11 @@
 ghost use Rattle.std.specs.Prelude.{◌≡◌, ℕ, ◌+◌, ◌-◌, ◌^◌, ◌<◌, ◌≤◌, min, length};
 ghost use Rattle.archive_shape_layout.specs.Bytes.{align_up};
 ghost use Rattle.archive_shape_layout.specs.Shape.{size_of};
-ghost use Rattle.archive_shape_layout.specs.Content.{Names};
-ghost use Rattle.archive_shape_layout.specs.Content.Part.{at};
 ghost use Rattle.archive_shape.specs.Kept.{IsWithin};
-ghost use Rattle.archive_shape.specs.Checks.{Checks, Moves};
-ghost use Rattle.archive_shape.specs.Steps.{StepTakes, StepChecks};
+ghost use Rattle.archive_shape.specs.Checks.{Moves};
+ghost use Rattle.archive_shape.specs.Steps.{StepChecks};
 ghost use Rattle.archive_forms_values.specs.Tuples.{tuple4};
+ghost use Rattle.archive_forms_values.specs.Calls.Checking.{ChecksTuple4, TakesPart};
 
 use crate::checking::next_multiple;
 use archive_shape::{ArchiveContext, Error, Portable};
@@ -35,21 +34,16 @@ pub fn check_tuple4_each<
 ) -> Result<(), Error>
     requires fits { pos + size_of (tuple4 A.shape B.shape C.shape D.shape) ≤ length bytes.now }
     requires range { IsWithin (Context.kept context.old) (length bytes.now) }
-    requires takes_first { StepTakes F.Fn Context.kept bytes.now A.shape first_step
-        (Context.kept context.old) 0 }
-    requires takes_second { StepTakes G.Fn Context.kept bytes.now B.shape second_step
-        (Context.kept context.old) 0 }
-    requires takes_third { StepTakes H.Fn Context.kept bytes.now C.shape third_step
-        (Context.kept context.old) 0 }
-    requires takes_fourth { StepTakes I.Fn Context.kept bytes.now D.shape fourth_step
-        (Context.kept context.old) 0 }
+    requires takes_first { TakesPart F.Fn Context.kept bytes.now A.shape first_step context.old }
+    requires takes_second { TakesPart G.Fn Context.kept bytes.now B.shape second_step context.old }
+    requires takes_third { TakesPart H.Fn Context.kept bytes.now C.shape third_step context.old }
+    requires takes_fourth { TakesPart I.Fn Context.kept bytes.now D.shape fourth_step context.old }
     requires checks_first { StepChecks F.Fn Context.kept bytes.now A.shape first_step A.knows }
     requires checks_second { StepChecks G.Fn Context.kept bytes.now B.shape second_step B.knows }
     requires checks_third { StepChecks H.Fn Context.kept bytes.now C.shape third_step C.knows }
     requires checks_fourth { StepChecks I.Fn Context.kept bytes.now D.shape fourth_step D.knows }
     ensures moves { Moves (Context.kept context.old) result (Context.kept context.new) }
-    ensures exact { (names : Names) → A.knows names → B.knows names → C.knows names → D.knows names
-        → Checks names bytes.now (at pos (tuple4 A.shape B.shape C.shape D.shape)) (Context.kept context.old) result (Context.kept context.new) }
+    ensures exact { ChecksTuple4 Context.kept A.knows B.knows C.knows D.knows bytes.now pos A.shape B.shape C.shape D.shape context.old result context.new }
 {
     let _len = bytes.len();
     let second = next_multiple(A::SIZE, B::ALIGN);

@@ -2,12 +2,10 @@
 ghost use Rattle.std.specs.Prelude.{◌≡◌, ℕ, ◌+◌, ◌-◌, ◌*◌, ◌^◌, ◌≤◌, min, length};
 ghost use Rattle.archive_shape_layout.specs.Shape.{size_of};
 ghost use Rattle.archive_shape_layout.specs.Shape.Shape.{vector};
-ghost use Rattle.archive_shape_layout.specs.Shape.Pointee.{slice};
-ghost use Rattle.archive_shape_layout.specs.Content.{Names};
-ghost use Rattle.archive_shape_layout.specs.Content.Part.{at, behind};
 ghost use Rattle.archive_shape.specs.Kept.{IsWithin};
-ghost use Rattle.archive_shape.specs.Checks.{Checks, Moves};
+ghost use Rattle.archive_shape.specs.Checks.{ChecksAt, Moves};
 ghost use Rattle.archive_shape.specs.Steps.{StepTakes, StepChecks};
+ghost use Rattle.archive_forms_values.specs.Calls.Checking.{ChecksSlice};
 
 use archive_shape::{
     ArchiveContext, ArchivedIsize, Error, Portable, Ref, RelPtr, Slice, check_slice_each,
@@ -31,8 +29,7 @@ pub fn check_elements_behind<
     requires takes { StepTakes F.Fn C.kept bytes.now T.shape step (C.kept context.old) T.SIZE }
     requires checks { StepChecks F.Fn C.kept bytes.now T.shape step T.knows }
     ensures moves { Moves (C.kept context.old) result (C.kept context.new) }
-    ensures exact { (names : Names) → T.knows names
-        → Checks names bytes.now (behind target (slice T.shape) len) (C.kept context.old) result (C.kept context.new) }
+    ensures exact { ChecksSlice C.kept T.knows bytes.now target T.shape len context.old result context.new }
 {
     let _len = bytes.len();
     let align = T::ALIGN;
@@ -59,8 +56,7 @@ pub fn check_vec_each<T: Portable, C: ArchiveContext, F: Fn(&mut C, usize) -> Re
     requires takes { StepTakes F.Fn C.kept bytes.now T.shape step (C.kept context.old) T.SIZE }
     requires checks { StepChecks F.Fn C.kept bytes.now T.shape step T.knows }
     ensures moves { Moves (C.kept context.old) result (C.kept context.new) }
-    ensures exact { (names : Names) → T.knows names
-        → Checks names bytes.now (at pos (vector T.shape)) (C.kept context.old) result (C.kept context.new) }
+    ensures exact { ChecksAt C.kept T.knows bytes.now pos (vector T.shape) context.old result context.new }
 {
     let _len = bytes.len();
     let pointer = Ref::<RelPtr<Slice<T>, ArchivedIsize>>::new(bytes, pos);

@@ -1,9 +1,9 @@
 //! The functions that read archived arrays.
-ghost use Rattle.std.specs.Prelude.{◌≡◌, ℕ, ◌+◌, ◌*◌, ◌<◌, ◌≤◌, MatchOption};
-ghost use Rattle.archive_shape_layout.specs.Shape.{size_of};
+ghost use Rattle.std.specs.Prelude.{◌≡◌, ℕ};
 ghost use Rattle.archive_shape_layout.specs.Shape.Shape.{array};
 ghost use Rattle.archive_forms_values.specs.Arrays.{IsArrayAt};
 ghost use Rattle.archive_forms_values.specs.Parts.{HasValue};
+ghost use Rattle.archive_forms_values.specs.Calls.Reading.{FindsElement, SealsElement};
 
 use crate::reading::{SliceRef, SliceSeal};
 use archive_shape::{Portable, Ref, Seal};
@@ -31,9 +31,7 @@ pub fn array_element<'a, T: Portable, const N: usize>(
 ) -> Option<Ref<'a, T>>
     requires { HasValue (array N T.shape) T.knows this.bytes.now this.pos }
     ensures elements { IsArrayAt N T.shape T.knows this.entry.bytes.now this.entry.pos }
-    ensures element { MatchOption result
-        (N ≤ index)
-        (λ r. (index < N) × (r.bytes ≡ this.entry.bytes) × (r.pos ≡ this.entry.pos + index * size_of T.shape)) }
+    ensures element { FindsElement T.shape this.entry.bytes this.entry.pos N index result }
 {
     array_slice(this).get(index)
 }
@@ -46,10 +44,7 @@ pub fn array_element_seal<'a, T: Portable, const N: usize>(
 ) -> Option<Seal<'a, T>>
     requires { HasValue (array N T.shape) T.knows this.bytes.now this.pos }
     ensures elements { IsArrayAt N T.shape T.knows this.entry.bytes.now this.entry.pos }
-    ensures element { MatchOption result
-        (N ≤ index)
-        (λ r. (index < N) × (r.bytes.ghost_name ≡ this.entry.bytes.ghost_name)
-        × (r.bytes.now ≡ this.entry.bytes.now) × (r.pos ≡ this.entry.pos + index * size_of T.shape)) }
+    ensures element { SealsElement T.shape this.entry.bytes this.entry.pos N index result }
 {
     let Seal { bytes, pos, .. } = this;
     let all: SliceSeal<'a, T> = SliceSeal {

@@ -1,10 +1,10 @@
 //! `ArchivedOption`: its layout, its check and the methods that read it.
-ghost use Rattle.std.specs.Prelude.{◌≡◌, ℕ, ◌+◌, ◌-◌, ◌^◌, ◌<◌, ◌↔◌, min, IsTrue, MatchOption, MatchResult, ◌⊎◌};
-ghost use Rattle.std.specs.Bool.{MatchBool};
+ghost use Rattle.std.specs.Prelude.{◌≡◌, ℕ, ◌+◌, ◌-◌, ◌^◌, ◌<◌, ◌↔◌, min, IsTrue};
 ghost use Rattle.archive_shape_layout.specs.Bytes.{align_up};
 ghost use Rattle.archive_shape_layout.specs.Shape.Shape.{option};
 ghost use Rattle.archive_forms_laws.proofs.Sizes.{option_sized};
 ghost use Rattle.archive_forms_values.specs.Parts.{HasValue, IsNoneAt, IsSomeAt, HasSome, some_position};
+ghost use Rattle.archive_forms_values.specs.Calls.Reading.{TellsNone, TellsSome, FindsSome, SealsSome, FindsSomeOr, GivesSomeOr};
 
 use crate::checking::{check_option_each, next_multiple};
 use crate::reading::Iter;
@@ -19,6 +19,9 @@ pub(crate) const fn option_size(size: usize, align: usize) -> usize
 {
     next_multiple(align.saturating_add(size), align)
 }
+
+/// The tag of an archived option that has a value.
+pub const SOME_TAG: u8 = 1;
 
 /// An archived option: a tag of one byte, which is 0 or 1, and with 1 the value at the first multiple of its alignment
 /// after the tag. With 0 the bytes of the value are not read.
@@ -69,8 +72,7 @@ impl<C: ArchiveContext, T: CheckBytes<C>> CheckBytes<C> for ArchivedOption<T> {
 /// Returns `true` if the option at `pos` is none.
 fn is_none_at<T: Portable>(bytes: &[u8], pos: usize) -> bool
     requires { HasValue (option T.shape) T.knows bytes.now pos }
-    ensures { MatchBool result (IsNoneAt T.shape T.knows bytes.now pos)
-        (IsSomeAt T.shape T.knows bytes.now pos) }
+    ensures { TellsNone T.shape T.knows bytes.now pos result }
 {
     bytes[pos] == 0
 }
@@ -79,9 +81,7 @@ impl<T: Portable> ArchivedOption<T> {
     /// Returns `true` if the option is none.
     pub fn is_none(this: Ref<'_, ArchivedOption<T>>) -> bool
         requires { HasValue (option T.shape) T.knows this.bytes.now this.pos }
-        ensures { MatchBool result
-            (IsNoneAt T.shape T.knows this.entry.bytes.now this.entry.pos)
-            (IsSomeAt T.shape T.knows this.entry.bytes.now this.entry.pos) }
+        ensures { TellsNone T.shape T.knows this.entry.bytes.now this.entry.pos result }
     {
         is_none_at::<T>(this.bytes, this.pos)
     }
@@ -89,9 +89,7 @@ impl<T: Portable> ArchivedOption<T> {
     /// Returns `true` if the option has a value.
     pub fn is_some(this: Ref<'_, ArchivedOption<T>>) -> bool
         requires { HasValue (option T.shape) T.knows this.bytes.now this.pos }
-        ensures { MatchBool result
-            (IsSomeAt T.shape T.knows this.entry.bytes.now this.entry.pos)
-            (IsNoneAt T.shape T.knows this.entry.bytes.now this.entry.pos) }
+        ensures { TellsSome T.shape T.knows this.entry.bytes.now this.entry.pos result }
     {
         !ArchivedOption::is_none(this)
     }
@@ -99,10 +97,7 @@ impl<T: Portable> ArchivedOption<T> {
     /// Returns the value, if there is one.
     pub fn as_ref<'a>(this: Ref<'a, ArchivedOption<T>>) -> Option<Ref<'a, T>>
         requires { HasValue (option T.shape) T.knows this.bytes.now this.pos }
-        ensures { MatchOption result
-            (IsNoneAt T.shape T.knows this.entry.bytes.now this.entry.pos)
-            (λ r. (r.bytes ≡ this.entry.bytes) × (r.pos ≡ some_position T.shape this.entry.pos)
-            × IsSomeAt T.shape T.knows this.entry.bytes.now this.entry.pos) }
+        ensures { FindsSome T.shape T.knows this.entry result }
     {
         if ArchivedOption::is_none(this) {
             None
@@ -115,10 +110,7 @@ impl<T: Portable> ArchivedOption<T> {
     /// specified.
     pub fn as_seal<'a>(this: Seal<'a, ArchivedOption<T>>) -> Option<Seal<'a, T>>
         requires { HasValue (option T.shape) T.knows this.bytes.now this.pos }
-        ensures { MatchOption result
-            (IsNoneAt T.shape T.knows this.entry.bytes.now this.entry.pos)
-            (λ r. (r.bytes.ghost_name ≡ this.entry.bytes.ghost_name) × (r.bytes.now ≡ this.entry.bytes.now)
-            × (r.pos ≡ some_position T.shape this.entry.pos) × IsSomeAt T.shape T.knows this.entry.bytes.now this.entry.pos) }
+        ensures { SealsSome T.shape T.knows this.entry result }
     {
         let Seal { bytes, pos, .. } = this;
         if is_none_at::<T>(bytes, pos) {
@@ -131,10 +123,7 @@ impl<T: Portable> ArchivedOption<T> {
     /// Returns the value, or `err` if there is none.
     pub fn ok_or<'a, E: Drop>(this: Ref<'a, ArchivedOption<T>>, err: E) -> Result<Ref<'a, T>, E>
         requires { HasValue (option T.shape) T.knows this.bytes.now this.pos }
-        ensures { MatchResult result
-            (λ r. (r.bytes ≡ this.entry.bytes) × (r.pos ≡ some_position T.shape this.entry.pos)
-            × IsSomeAt T.shape T.knows this.entry.bytes.now this.entry.pos)
-            (λ e. (e ≡ err) × IsNoneAt T.shape T.knows this.entry.bytes.now this.entry.pos) }
+        ensures { FindsSomeOr T.shape T.knows this.entry err result }
     {
         match ArchivedOption::as_ref(this) {
             Some(value) => Ok(value),
@@ -155,10 +144,7 @@ impl<T: Portable> ArchivedOption<T> {
     /// Returns the value, or `default` if there is none.
     pub fn unwrap_or<'a>(this: Ref<'a, ArchivedOption<T>>, default: Ref<'a, T>) -> Ref<'a, T>
         requires { HasValue (option T.shape) T.knows this.bytes.now this.pos }
-        ensures { ((result ≡ default.entry)
-            × IsNoneAt T.shape T.knows this.entry.bytes.now this.entry.pos)
-            ⊎ ((result.bytes ≡ this.entry.bytes) × (result.pos ≡ some_position T.shape this.entry.pos)
-            × IsSomeAt T.shape T.knows this.entry.bytes.now this.entry.pos) }
+        ensures { GivesSomeOr T.shape T.knows this.entry (result ≡ default.entry) result }
     {
         match ArchivedOption::as_ref(this) {
             Some(value) => value,
@@ -173,9 +159,7 @@ impl<T: Portable> ArchivedOption<T> {
     ) -> Ref<'a, T>
         requires there { HasValue (option T.shape) T.knows this.bytes.now this.pos }
         requires callable { IsNoneAt T.shape T.knows this.bytes.now this.pos → F.pre f }
-        ensures { (F.post f result × IsNoneAt T.shape T.knows this.entry.bytes.now this.entry.pos)
-            ⊎ ((result.bytes ≡ this.entry.bytes) × (result.pos ≡ some_position T.shape this.entry.pos)
-            × IsSomeAt T.shape T.knows this.entry.bytes.now this.entry.pos) }
+        ensures { GivesSomeOr T.shape T.knows this.entry (F.post f result) result }
     {
         match ArchivedOption::as_ref(this) {
             Some(value) => value,
@@ -186,10 +170,7 @@ impl<T: Portable> ArchivedOption<T> {
     /// Returns an iterator over the value, if there is one.
     pub fn iter<'a>(this: Ref<'a, ArchivedOption<T>>) -> Iter<Ref<'a, T>>
         requires { HasValue (option T.shape) T.knows this.bytes.now this.pos }
-        ensures { MatchOption result
-            (IsNoneAt T.shape T.knows this.entry.bytes.now this.entry.pos)
-            (λ r. (r.bytes ≡ this.entry.bytes) × (r.pos ≡ some_position T.shape this.entry.pos)
-            × IsSomeAt T.shape T.knows this.entry.bytes.now this.entry.pos) }
+        ensures { FindsSome T.shape T.knows this.entry result }
     {
         Iter::new(ArchivedOption::as_ref(this))
     }

@@ -1,13 +1,10 @@
 //! The writing of boxes and vectors, once the position of their value or elements is known.
-ghost use Rattle.std.specs.Prelude.{◌≡◌, ◌+◌, ◌^◌, ◌<◌, ◌≤◌, ◌++◌, ◌⊎◌, length, MatchResult};
-ghost use Rattle.std.specs.Int.{w32, to_le_bytes};
-ghost use Rattle.archive_shape.specs.Bytes.{overwrite};
-ghost use Rattle.archive_shape_writing.specs.declared.error.Error.TheVariants.{IsizeOverflow, LengthTooLarge};
-ghost use Rattle.archive_shape.specs.Offsets.{FitsOffset, offset_bytes};
+ghost use Rattle.std.specs.Prelude.{◌≡◌, ◌+◌, ◌≤◌, length};
+ghost use Rattle.archive_forms_values.specs.Calls.Writing.{ResolvesBox, ResolvesElements};
 
 use crate::reading::{ArchivedBox, ArchivedVec};
 use archive_shape::{ArchivedIsize, LittleEndian, Place, Portable, RelPtr, Slice};
-use archive_shape_writing::Error;
+use archive_shape_layout::Error;
 
 /// The position of the value that a box will point to.
 #[derive(Clone, Copy, Debug, PartialEq, Eq)]
@@ -32,10 +29,7 @@ impl<T: Portable> ArchivedBox<T> {
         out: Place<'_, ArchivedBox<T>>,
     ) -> Result<(), Error>
         requires { out.start + 4 ≤ length out.out.now }
-        ensures { MatchResult result
-            (λ _. FitsOffset out.entry.pos resolver.pos
-            × (out.exit.0.now ≡ overwrite out.entry.out.now out.entry.start (offset_bytes out.entry.pos resolver.pos)))
-            (λ e. (e ≡ IsizeOverflow) × ((FitsOffset out.entry.pos resolver.pos → ⊥) × (out.exit.0.now ≡ out.entry.out.now))) }
+        ensures { ResolvesBox resolver.pos out.entry result out.exit.0.now }
     {
         let Place {
             out,
@@ -73,11 +67,7 @@ impl<T: Portable> ArchivedVec<T> {
         out: Place<'_, ArchivedVec<T>>,
     ) -> Result<(), Error>
         requires { out.start + 8 ≤ length out.out.now }
-        ensures { MatchResult result
-            (λ _. (FitsOffset out.entry.pos resolver.pos × (len < 2 ^ 32))
-            × (out.exit.0.now ≡ overwrite out.entry.out.now out.entry.start (offset_bytes out.entry.pos resolver.pos ++ to_le_bytes w32 len)))
-            (λ e. (((e ≡ LengthTooLarge) × (2 ^ 32 ≤ len)) ⊎ ((e ≡ IsizeOverflow) × (len < 2 ^ 32) × (FitsOffset out.entry.pos resolver.pos → ⊥)))
-            × (out.exit.0.now ≡ out.entry.out.now)) }
+        ensures { ResolvesElements resolver.pos len out.entry result out.exit.0.now }
     {
         let Place {
             out,

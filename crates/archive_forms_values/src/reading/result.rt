@@ -1,12 +1,12 @@
 //! `ArchivedResult`: its layout, its check and the methods that read it.
-ghost use Rattle.std.specs.Prelude.{◌≡◌, ℕ, ◌+◌, ◌-◌, ◌^◌, ◌<◌, ◌++◌, ◌⊎◌, max, min, MatchOption, MatchResult};
-ghost use Rattle.std.specs.Bool.{MatchBool};
+ghost use Rattle.std.specs.Prelude.{◌≡◌, ℕ, ◌+◌, ◌-◌, ◌^◌, ◌<◌, ◌++◌, max, min};
 ghost use Rattle.archive_shape_layout.specs.Bytes.{align_up};
 ghost use Rattle.archive_shape_layout.specs.Shape.Shape.{result as result_shape};
 ghost use Rattle.archive_shape_layout.proofs.Naming.{first_types, other_types};
 ghost use Rattle.archive_shape_layout.proofs.PointerSizes.{pointer_aligns};
 ghost use Rattle.archive_forms_laws.proofs.Sizes.{result_sized, result_aligned};
-ghost use Rattle.archive_forms_values.specs.Parts.{HasValue, both, IsOkAt, IsErrAt, HasOk, outcome_position};
+ghost use Rattle.archive_forms_values.specs.Parts.{HasValue, both, IsOkAt, HasOk, outcome_position, outcome_size};
+ghost use Rattle.archive_forms_values.specs.Calls.Reading.{HasResult, TellsOk, TellsErr, FindsOutcome, FindsOk, MayCallOnErr, GivesOkOr};
 
 use crate::checking::{check_result_each, greater};
 use crate::reading::Iter;
@@ -23,8 +23,7 @@ const fn result_size(
     error_align: usize,
 ) -> usize
     requires { 0 < value_align }
-    ensures { result ≡ min (align_up (max value_align error_align + max value_size error_size)
-        (max value_align error_align)) (2 ^ 64 - 1) }
+    ensures { result ≡ outcome_size value_size value_align error_size error_align }
 {
     option_size(
         greater(value_size, error_size),
@@ -87,8 +86,7 @@ impl<C: ArchiveContext, T: CheckBytes<C>, E: CheckBytes<C>> CheckBytes<C> for Ar
 /// Returns `true` if the result at `pos` is a value.
 fn is_ok_at<T: Portable, E: Portable>(bytes: &[u8], pos: usize) -> bool
     requires { HasValue (result_shape T.shape E.shape) (both T.knows E.knows) bytes.now pos }
-    ensures { MatchBool result (IsOkAt T.shape E.shape T.knows E.knows bytes.now pos)
-        (IsErrAt T.shape E.shape T.knows E.knows bytes.now pos) }
+    ensures { TellsOk T.shape E.shape T.knows E.knows bytes.now pos result }
 {
     bytes[pos] == 0
 }
@@ -104,35 +102,24 @@ fn outcome_at<T: Portable, E: Portable>(bytes: &[u8], pos: usize) -> usize
 impl<T: Portable, E: Portable> ArchivedResult<T, E> {
     /// Returns `true` if the result is a value.
     pub fn is_ok(this: Ref<'_, ArchivedResult<T, E>>) -> bool
-        requires { HasValue (result_shape T.shape E.shape) (both T.knows E.knows)
-            this.bytes.now this.pos }
-        ensures { MatchBool result
-            (IsOkAt T.shape E.shape T.knows E.knows this.entry.bytes.now this.entry.pos)
-            (IsErrAt T.shape E.shape T.knows E.knows this.entry.bytes.now this.entry.pos) }
+        requires { HasResult T.shape E.shape T.knows E.knows this }
+        ensures { TellsOk T.shape E.shape T.knows E.knows this.entry.bytes.now this.entry.pos result }
     {
         is_ok_at::<T, E>(this.bytes, this.pos)
     }
 
     /// Returns `true` if the result is an error.
     pub fn is_err(this: Ref<'_, ArchivedResult<T, E>>) -> bool
-        requires { HasValue (result_shape T.shape E.shape) (both T.knows E.knows)
-            this.bytes.now this.pos }
-        ensures { MatchBool result
-            (IsErrAt T.shape E.shape T.knows E.knows this.entry.bytes.now this.entry.pos)
-            (IsOkAt T.shape E.shape T.knows E.knows this.entry.bytes.now this.entry.pos) }
+        requires { HasResult T.shape E.shape T.knows E.knows this }
+        ensures { TellsErr T.shape E.shape T.knows E.knows this.entry.bytes.now this.entry.pos result }
     {
         !ArchivedResult::is_ok(this)
     }
 
     /// Returns the value or the error.
     pub fn as_ref<'a>(this: Ref<'a, ArchivedResult<T, E>>) -> Result<Ref<'a, T>, Ref<'a, E>>
-        requires { HasValue (result_shape T.shape E.shape) (both T.knows E.knows)
-            this.bytes.now this.pos }
-        ensures { MatchResult result
-            (λ r. (r.bytes ≡ this.entry.bytes) × (r.pos ≡ outcome_position T.shape E.shape this.entry.pos)
-            × IsOkAt T.shape E.shape T.knows E.knows this.entry.bytes.now this.entry.pos)
-            (λ e. (e.bytes ≡ this.entry.bytes) × (e.pos ≡ outcome_position T.shape E.shape this.entry.pos)
-            × IsErrAt T.shape E.shape T.knows E.knows this.entry.bytes.now this.entry.pos) }
+        requires { HasResult T.shape E.shape T.knows E.knows this }
+        ensures { FindsOutcome T.shape E.shape T.knows E.knows this.entry result }
     {
         let at = outcome_at::<T, E>(this.bytes, this.pos);
         if is_ok_at::<T, E>(this.bytes, this.pos) {
@@ -144,12 +131,8 @@ impl<T: Portable, E: Portable> ArchivedResult<T, E> {
 
     /// Returns the value, or `None` if the result is an error.
     pub fn ok<'a>(this: Ref<'a, ArchivedResult<T, E>>) -> Option<Ref<'a, T>>
-        requires { HasValue (result_shape T.shape E.shape) (both T.knows E.knows)
-            this.bytes.now this.pos }
-        ensures { MatchOption result
-            (IsErrAt T.shape E.shape T.knows E.knows this.entry.bytes.now this.entry.pos)
-            (λ r. (r.bytes ≡ this.entry.bytes) × (r.pos ≡ outcome_position T.shape E.shape this.entry.pos)
-            × IsOkAt T.shape E.shape T.knows E.knows this.entry.bytes.now this.entry.pos) }
+        requires { HasResult T.shape E.shape T.knows E.knows this }
+        ensures { FindsOk T.shape E.shape T.knows E.knows this.entry result }
     {
         match ArchivedResult::as_ref(this) {
             Ok(value) => Some(value),
@@ -172,15 +155,9 @@ impl<T: Portable, E: Portable> ArchivedResult<T, E> {
         this: Ref<'a, ArchivedResult<T, E>>,
         f: F,
     ) -> Ref<'a, T>
-        requires there { HasValue (result_shape T.shape E.shape) (both T.knows E.knows)
-            this.bytes.now this.pos }
-        requires callable { IsErrAt T.shape E.shape T.knows E.knows this.bytes.now this.pos
-            → (e : _) → (e.bytes ≡ this.bytes) → (e.pos ≡ outcome_position T.shape E.shape this.pos) → F.pre f e }
-        ensures { ((result.bytes ≡ this.entry.bytes)
-            × (result.pos ≡ outcome_position T.shape E.shape this.entry.pos)
-            × IsOkAt T.shape E.shape T.knows E.knows this.entry.bytes.now this.entry.pos)
-            ⊎ ((e : _) × (e.bytes ≡ this.entry.bytes) × (e.pos ≡ outcome_position T.shape E.shape this.entry.pos)
-            × IsErrAt T.shape E.shape T.knows E.knows this.entry.bytes.now this.entry.pos × F.post f e result) }
+        requires there { HasResult T.shape E.shape T.knows E.knows this }
+        requires callable { MayCallOnErr T.shape E.shape T.knows E.knows this (F.pre f) }
+        ensures { GivesOkOr T.shape E.shape T.knows E.knows this.entry (F.post f) result }
     {
         match ArchivedResult::as_ref(this) {
             Ok(value) => value,
@@ -190,12 +167,8 @@ impl<T: Portable, E: Portable> ArchivedResult<T, E> {
 
     /// Returns an iterator over the value, or over nothing if the result is an error.
     pub fn iter<'a>(this: Ref<'a, ArchivedResult<T, E>>) -> Iter<Ref<'a, T>>
-        requires { HasValue (result_shape T.shape E.shape) (both T.knows E.knows)
-            this.bytes.now this.pos }
-        ensures { MatchOption result
-            (IsErrAt T.shape E.shape T.knows E.knows this.entry.bytes.now this.entry.pos)
-            (λ r. (r.bytes ≡ this.entry.bytes) × (r.pos ≡ outcome_position T.shape E.shape this.entry.pos)
-            × IsOkAt T.shape E.shape T.knows E.knows this.entry.bytes.now this.entry.pos) }
+        requires { HasResult T.shape E.shape T.knows E.knows this }
+        ensures { FindsOk T.shape E.shape T.knows E.knows this.entry result }
     {
         Iter::new(ArchivedResult::ok(this))
     }

@@ -1,7 +1,7 @@
 //! `SliceRef` and `SliceSeal`, adjacent elements in a buffer.
-ghost use Rattle.std.specs.Prelude.{◌≡◌, ℕ, ◌+◌, ◌*◌, ◌<◌, ◌≤◌, ◌↔◌, IsTrue, MatchOption, length};
-ghost use Rattle.archive_shape_layout.specs.Shape.{size_of};
+ghost use Rattle.std.specs.Prelude.{◌≡◌, ℕ, ◌↔◌, IsTrue, length};
 ghost use Rattle.archive_forms_values.specs.Parts.{HasElements};
+ghost use Rattle.archive_forms_values.specs.Calls.Reading.{FindsPosition, FindsElement, SealsElement};
 
 use archive_shape::{Portable, Ref, Seal};
 use std::marker::PhantomData;
@@ -23,9 +23,7 @@ pub(crate) fn element_at<T: Portable>(
     index: usize,
 ) -> Option<usize>
     requires { HasElements T.shape T.knows bytes.now pos len }
-    ensures { MatchOption result
-        (len ≤ index)
-        (λ at. (index < len) × (at ≡ pos + index * size_of T.shape)) }
+    ensures { FindsPosition T.shape pos len index result }
 {
     let _len = bytes.len();
     let size = T::SIZE;
@@ -56,9 +54,7 @@ impl<'a, T: Portable> SliceRef<'a, T> {
     /// Returns the element at `index`, or `None` if it is out of bounds.
     pub fn get(self, index: usize) -> Option<Ref<'a, T>>
         requires { HasElements T.shape T.knows self.bytes.now self.pos self.len }
-        ensures { MatchOption result
-            (self.entry.len ≤ index)
-            (λ r. (index < self.entry.len) × (r.bytes ≡ self.entry.bytes) × (r.pos ≡ self.entry.pos + index * size_of T.shape)) }
+        ensures { FindsElement T.shape self.entry.bytes self.entry.pos self.entry.len index result }
     {
         match element_at::<T>(self.bytes, self.pos, self.len, index) {
             Some(at) => Some(Ref::new(self.bytes, at)),
@@ -81,10 +77,7 @@ impl<'a, T: Portable> SliceSeal<'a, T> {
     /// buffer after the loan are not specified.
     pub fn get(self, index: usize) -> Option<Seal<'a, T>>
         requires { HasElements T.shape T.knows self.bytes.now self.pos self.len }
-        ensures { MatchOption result
-            (self.entry.len ≤ index)
-            (λ r. (index < self.entry.len) × (r.bytes.ghost_name ≡ self.entry.bytes.ghost_name)
-            × (r.bytes.now ≡ self.entry.bytes.now) × (r.pos ≡ self.entry.pos + index * size_of T.shape)) }
+        ensures { SealsElement T.shape self.entry.bytes self.entry.pos self.entry.len index result }
     {
         let SliceSeal {
             bytes,

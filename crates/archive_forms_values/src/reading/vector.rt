@@ -1,9 +1,9 @@
 //! `ArchivedVec`, a pointer to elements: its layout, its check and the methods that read it.
-ghost use Rattle.std.specs.Prelude.{◌≡◌, ℕ, ◌+◌, ◌*◌, ◌<◌, ◌≤◌, ◌↔◌, IsTrue, MatchOption};
+ghost use Rattle.std.specs.Prelude.{◌≡◌, ℕ, ◌≤◌};
 ghost use Rattle.std.proofs.Common.{refl, lit<, lit≤};
-ghost use Rattle.archive_shape_layout.specs.Shape.{size_of};
 ghost use Rattle.archive_shape_layout.specs.Shape.Shape.{vector};
 ghost use Rattle.archive_forms_values.specs.Parts.{HasValue, IsVecAt};
+ghost use Rattle.archive_forms_values.specs.Calls.Reading.{FindsVecElement, SealsVecElement, TellsEmpty};
 
 use crate::checking::check_vec_each;
 use crate::reading::slice::element_at;
@@ -84,8 +84,7 @@ impl<T: Portable> ArchivedVec<T> {
     /// Returns `true` if the vector has no elements.
     pub fn is_empty(this: Ref<'_, ArchivedVec<T>>) -> bool
         requires { HasValue (vector T.shape) T.knows this.bytes.now this.pos }
-        ensures { (to len : ℕ) × IsVecAt T.shape T.knows this.entry.bytes.now this.entry.pos to len
-            × (IsTrue result ↔ (len ≡ 0)) }
+        ensures { TellsEmpty (IsVecAt T.shape T.knows) this.entry result }
     {
         ArchivedVec::len(this) == 0
     }
@@ -109,10 +108,7 @@ impl<T: Portable> ArchivedVec<T> {
     /// Returns the element at `index`, or `None` if it is out of bounds.
     pub fn get<'a>(this: Ref<'a, ArchivedVec<T>>, index: usize) -> Option<Ref<'a, T>>
         requires { HasValue (vector T.shape) T.knows this.bytes.now this.pos }
-        ensures { (to len : ℕ) × IsVecAt T.shape T.knows this.entry.bytes.now this.entry.pos to len
-            × MatchOption result
-            (len ≤ index)
-            (λ r. (index < len) × (r.bytes ≡ this.entry.bytes) × (r.pos ≡ to + index * size_of T.shape)) }
+        ensures { FindsVecElement T.shape T.knows this.entry index result }
     {
         ArchivedVec::as_slice(this).get(index)
     }
@@ -139,11 +135,7 @@ impl<T: Portable> ArchivedVec<T> {
     /// buffer after the loan are not specified.
     pub fn get_seal<'a>(this: Seal<'a, ArchivedVec<T>>, index: usize) -> Option<Seal<'a, T>>
         requires { HasValue (vector T.shape) T.knows this.bytes.now this.pos }
-        ensures { (to len : ℕ) × IsVecAt T.shape T.knows this.entry.bytes.now this.entry.pos to len
-            × MatchOption result
-            (len ≤ index)
-            (λ r. (index < len) × (r.bytes.ghost_name ≡ this.entry.bytes.ghost_name)
-            × (r.bytes.now ≡ this.entry.bytes.now) × (r.pos ≡ to + index * size_of T.shape)) }
+        ensures { SealsVecElement T.shape T.knows this.entry index result }
     {
         let Seal { bytes, pos, .. } = this;
         let (pos, len) = elements_at::<T>(bytes, pos);

@@ -1,10 +1,8 @@
 //! The check of archived texts.
 ghost use Rattle.std.specs.Prelude.{◌↔◌, length, IsTrue, IsUtf8};
-ghost use Rattle.archive_shape_layout.specs.Shape.Pointee.{str};
-ghost use Rattle.archive_shape_layout.specs.Content.{Names};
-ghost use Rattle.archive_shape_layout.specs.Content.Part.{behind};
 ghost use Rattle.archive_shape.specs.Kept.{IsWithin};
-ghost use Rattle.archive_shape.specs.Checks.{Checks, Moves};
+ghost use Rattle.archive_shape.specs.Checks.{Moves};
+ghost use Rattle.archive_forms_values.specs.Calls.Checking.{ChecksText};
 
 use crate::text::repr::{before_filler, out_of_line_len, out_of_line_start, own_bytes};
 use crate::text::{ArchivedString, ArchivedStringRepr};
@@ -29,8 +27,7 @@ pub fn check_behind<C: ArchiveContext>(
 ) -> Result<(), Error>
     requires { IsWithin (C.kept context.old) (length bytes.now) }
     ensures moves { Moves (C.kept context.old) result (C.kept context.new) }
-    ensures exact { (names : Names) → Checks names bytes.now (behind start str len)
-        (C.kept context.old) result (C.kept context.new) }
+    ensures exact { ChecksText C.kept bytes.now start len context.old result context.new }
 {
     let _len = bytes.len();
     context.check_subtree_ptr(start, len, 1)?;

@@ -1,8 +1,8 @@
 //! The writing of archived texts, once the position of their bytes is known.
-ghost use Rattle.std.specs.Prelude.{◌≡◌, ◌+◌, ◌≤◌, ◌<◌, ◌^◌, ◌++◌, ℤ, length, FitsSigned, MatchResult};
+ghost use Rattle.std.specs.Prelude.{◌≡◌, ◌+◌, ◌≤◌, ◌<◌, ◌^◌, ◌++◌, ℤ, length, FitsSigned};
 ghost use Rattle.std.specs.Int.{w32, to_le_bytes, cast_unsigned};
-ghost use Rattle.archive_shape.specs.Bytes.{overwrite};
-ghost use Rattle.archive_forms_laws.specs.Texts.{is_short, inline_bytes, length_word, text_own, text_own_fits, text_own_refused};
+ghost use Rattle.archive_forms_laws.specs.Texts.{inline_bytes, length_word};
+ghost use Rattle.archive_forms_values.specs.Calls.Writing.{MakesOwnText, ResolvesText};
 
 use crate::text::{ArchivedString, ArchivedStringRepr};
 use archive_shape::{Error, Place, signed_offset};
@@ -46,9 +46,7 @@ fn out_of_line_own(len: usize, offset: i32) -> [u8; 8]
 
 /// Returns the own bytes of a text at `pos`, whose bytes lie at `to` if it is out of line.
 fn own_of(text: &[u8], to: usize, pos: usize) -> Result<[u8; 8], Error>
-    ensures { MatchResult result
-        (λ own. text_own_fits (is_short text.now) text.now to pos × (own ≡ text_own (is_short text.now) text.now to pos))
-        (text_own_refused (is_short text.now) text.now to pos) }
+    ensures { MakesOwnText text.now to pos result }
 {
     if text.len() <= ArchivedStringRepr::INLINE_CAPACITY {
         return Ok(inline_own(text));
@@ -77,10 +75,7 @@ impl ArchivedString {
         out: Place<'_, ArchivedString>,
     ) -> Result<(), Error>
         requires { out.start + 8 ≤ length out.out.now }
-        ensures { MatchResult result
-            (λ _. text_own_fits (is_short value.now) value.now resolver.pos out.entry.pos
-            × (out.exit.0.now ≡ overwrite out.entry.out.now out.entry.start (text_own (is_short value.now) value.now resolver.pos out.entry.pos)))
-            (λ e. text_own_refused (is_short value.now) value.now resolver.pos out.entry.pos e × (out.exit.0.now ≡ out.entry.out.now)) }
+        ensures { ResolvesText value.now resolver.pos out.entry result out.exit.0.now }
     {
         let Place {
             out,

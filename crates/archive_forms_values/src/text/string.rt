@@ -1,12 +1,11 @@
 //! `ArchivedString`: its layout and the methods that read it.
-ghost use Rattle.std.specs.Prelude.{◌≡◌, ◌+◌, ◌≤◌, ◌↔◌, List, ℕ, length, slice_index, [], IsTrue, MatchResult, refl, ⊤};
+ghost use Rattle.std.specs.Prelude.{◌≡◌, ◌+◌, ◌≤◌, ℕ, length, [], refl, ⊤};
 ghost use Rattle.std.proofs.Common.{lit<, lit≤};
 ghost use Rattle.archive_shape_layout.specs.Shape.Shape.{text};
-ghost use Rattle.archive_shape_layout.specs.Content.{IsInline};
 ghost use Rattle.archive_shape.specs.Bytes.{overwrite};
-ghost use Rattle.archive_shape_writing.specs.declared.error.Error.TheVariants.{InvalidSubtreePointer};
 ghost use Rattle.archive_forms_laws.specs.Text.{HasText, IsText, HasLength, LiesAt};
 ghost use Rattle.archive_forms_values.specs.Repr.{length_of};
+ghost use Rattle.archive_forms_values.specs.Calls.Texts.{TellsEmptyText, WritesText, PutsText};
 
 use crate::text::ArchivedStringRepr;
 use crate::text::repr::{out_of_line_start, own_bytes};
@@ -112,8 +111,7 @@ impl ArchivedString {
     /// present one.
     pub fn write_text(this: Seal<'_, ArchivedString>, text: &str)
         requires { HasLength this.bytes.now this.pos (length text.now) }
-        ensures { (start : ℕ) × LiesAt this.entry.bytes.now this.entry.pos start (length text.now)
-            × (this.exit.0.now ≡ overwrite this.entry.bytes.now start text.now) }
+        ensures { WritesText LiesAt this.entry text.now this.exit.0.now }
     {
         let Seal { bytes, pos, .. } = this;
         let start = start_of(bytes, pos);
@@ -130,9 +128,7 @@ impl ArchivedString {
         requires same_length { length_of this.old.own.now ≡ length text.now }
         ensures same_reference { this.new.own.ghost_name ≡ this.old.own.ghost_name }
         ensures pos { this.new.pos ≡ this.old.pos }
-        ensures contents { MatchResult result
-            (λ _. IsInline (slice_index this.old.own.now 0) × (this.new.own.now ≡ overwrite this.old.own.now 0 text.now))
-            (λ e. (e ≡ InvalidSubtreePointer (length text.now)) × ((IsInline (slice_index this.old.own.now 0) → ⊥) × (this.new.own.now ≡ this.old.own.now))) }
+        ensures contents { PutsText this.old text.now result this.new }
     {
         let size = text.len();
         if !ArchivedStringRepr::is_inline(this.as_ref().bytes) {
@@ -153,8 +149,7 @@ impl ArchivedString {
     /// Returns `true` if the text has no bytes.
     pub fn is_empty(this: Ref<'_, ArchivedString>) -> bool
         requires { HasText this.bytes.now this.pos }
-        ensures { (t : List ℕ) × IsText this.entry.bytes.now this.entry.pos t
-            × (IsTrue result ↔ (length t ≡ 0)) }
+        ensures { TellsEmptyText this.entry result }
     {
         ArchivedString::len(this) == 0
     }

@@ -1,13 +1,12 @@
 //! `Entry`, an archived pair of a key and a value.
-ghost use Rattle.std.specs.Prelude.{◌≡◌, ℕ, ◌-◌, ◌^◌, ◌<◌, ◌++◌, max, min, [], ◌∷◌};
+ghost use Rattle.std.specs.Prelude.{◌≡◌, ℕ, ◌-◌, ◌^◌, ◌<◌, ◌++◌, max, min};
 ghost use Rattle.std.proofs.Common.{refl};
 ghost use Rattle.archive_shape_layout.specs.Shape.{size_of};
-ghost use Rattle.archive_shape_layout.specs.Shape.Shapes.{no_shapes};
 ghost use Rattle.archive_shape_layout.proofs.Naming.{first_types, other_types};
 ghost use Rattle.archive_shape_layout.proofs.PointerSizes.{pointer_aligned, pointer_aligns};
 ghost use Rattle.archive_forms_values.specs.Tuples.{tuple2};
-ghost use Rattle.archive_forms_values.specs.Parts.{HasValue, both};
-ghost use Rattle.archive_forms_values.specs.Fields.{field, AreFieldsAt, field_position};
+ghost use Rattle.archive_forms_values.specs.Fields.{second_position};
+ghost use Rattle.archive_forms_values.specs.Calls.Tuples.{HasTuple2, AreFields2};
 
 use crate::tuples::ArchivedTuple2;
 use archive_shape::{ArchiveContext, CheckBytes, Error, Portable, Ref, Shape};
@@ -60,22 +59,20 @@ impl<C: ArchiveContext, K: CheckBytes<C>, V: CheckBytes<C>> CheckBytes<C> for En
 impl<K: Portable, V: Portable> Entry<K, V> {
     /// Returns the key.
     pub fn key<'a>(this: Ref<'a, Entry<K, V>>) -> Ref<'a, K>
-        requires { HasValue (tuple2 K.shape V.shape) (both K.knows V.knows) this.bytes.now this.pos }
+        requires { HasTuple2 K.shape V.shape K.knows V.knows this }
         ensures bytes { result.bytes ≡ this.entry.bytes }
         ensures pos { result.pos ≡ this.entry.pos }
-        ensures value { AreFieldsAt (field K.shape K.knows ∷ field V.shape V.knows ∷ [])
-            (both K.knows V.knows) this.entry.bytes.now this.entry.pos }
+        ensures value { AreFields2 K.shape V.shape K.knows V.knows this.entry }
     {
         ArchivedTuple2::first(Ref::<ArchivedTuple2<K, V>>::new(this.bytes, this.pos))
     }
 
     /// Returns the value.
     pub fn value<'a>(this: Ref<'a, Entry<K, V>>) -> Ref<'a, V>
-        requires { HasValue (tuple2 K.shape V.shape) (both K.knows V.knows) this.bytes.now this.pos }
+        requires { HasTuple2 K.shape V.shape K.knows V.knows this }
         ensures bytes { result.bytes ≡ this.entry.bytes }
-        ensures pos { result.pos ≡ field_position K.shape no_shapes V.shape this.entry.pos }
-        ensures value { AreFieldsAt (field K.shape K.knows ∷ field V.shape V.knows ∷ [])
-            (both K.knows V.knows) this.entry.bytes.now this.entry.pos }
+        ensures pos { result.pos ≡ second_position K.shape V.shape this.entry.pos }
+        ensures value { AreFields2 K.shape V.shape K.knows V.knows this.entry }
     {
         ArchivedTuple2::second(Ref::<ArchivedTuple2<K, V>>::new(this.bytes, this.pos))
     }

@@ -1,5 +1,5 @@
 //! Archived tuples of two fields.
-ghost use Rattle.std.specs.Prelude.{◌≡◌, ℕ, ◌+◌, ◌-◌, ◌^◌, ◌<◌, ◌++◌, max, min, [], ◌∷◌};
+ghost use Rattle.std.specs.Prelude.{◌≡◌, ℕ, ◌+◌, ◌-◌, ◌^◌, ◌<◌, ◌++◌, max, min};
 ghost use Rattle.std.proofs.Common.{refl};
 ghost use Rattle.archive_shape_layout.specs.Shape.{size_of};
 ghost use Rattle.archive_shape_layout.specs.Shape.Shapes.{no_shapes, more_shapes};
@@ -7,8 +7,8 @@ ghost use Rattle.archive_shape_layout.proofs.Naming.{first_types, other_types};
 ghost use Rattle.archive_shape_layout.proofs.PointerSizes.{pointer_aligns};
 ghost use Rattle.archive_forms_values.specs.Tuples.{tuple2};
 ghost use Rattle.archive_forms_laws.proofs.FieldSizes.{alone_aligned, before_aligned};
-ghost use Rattle.archive_forms_values.specs.Parts.{HasValue, both};
-ghost use Rattle.archive_forms_values.specs.Fields.{field, AreFieldsAt, field_position};
+ghost use Rattle.archive_forms_values.specs.Fields.{second_position};
+ghost use Rattle.archive_forms_values.specs.Calls.Tuples.{HasTuple2, AreFields2};
 
 use crate::checking::{check_tuple2_each, field_end, greater, next_multiple};
 use archive_shape::{ArchiveContext, CheckBytes, Error, Portable, Ref, Shape, Shapes};
@@ -76,22 +76,20 @@ impl<Context: ArchiveContext, A: CheckBytes<Context>, B: CheckBytes<Context>> Ch
 impl<A: Portable, B: Portable> ArchivedTuple2<A, B> {
     /// Returns the first field.
     pub fn first<'a>(this: Ref<'a, ArchivedTuple2<A, B>>) -> Ref<'a, A>
-        requires { HasValue (tuple2 A.shape B.shape) (both A.knows B.knows) this.bytes.now this.pos }
+        requires { HasTuple2 A.shape B.shape A.knows B.knows this }
         ensures bytes { result.bytes ≡ this.entry.bytes }
         ensures pos { result.pos ≡ this.entry.pos }
-        ensures value { AreFieldsAt (field A.shape A.knows ∷ field B.shape B.knows ∷ [])
-            (both A.knows B.knows) this.entry.bytes.now this.entry.pos }
+        ensures value { AreFields2 A.shape B.shape A.knows B.knows this.entry }
     {
         Ref::new(this.bytes, this.pos)
     }
 
     /// Returns the second field.
     pub fn second<'a>(this: Ref<'a, ArchivedTuple2<A, B>>) -> Ref<'a, B>
-        requires { HasValue (tuple2 A.shape B.shape) (both A.knows B.knows) this.bytes.now this.pos }
+        requires { HasTuple2 A.shape B.shape A.knows B.knows this }
         ensures bytes { result.bytes ≡ this.entry.bytes }
-        ensures pos { result.pos ≡ field_position A.shape no_shapes B.shape this.entry.pos }
-        ensures value { AreFieldsAt (field A.shape A.knows ∷ field B.shape B.knows ∷ [])
-            (both A.knows B.knows) this.entry.bytes.now this.entry.pos }
+        ensures pos { result.pos ≡ second_position A.shape B.shape this.entry.pos }
+        ensures value { AreFields2 A.shape B.shape A.knows B.knows this.entry }
     {
         let _len = this.bytes.len();
         let offset = next_multiple(A::SIZE, B::ALIGN);

@@ -1,5 +1,5 @@
 //! Archived tuples of three fields.
-ghost use Rattle.std.specs.Prelude.{◌≡◌, ℕ, ◌+◌, ◌-◌, ◌^◌, ◌<◌, ◌++◌, max, min, [], ◌∷◌};
+ghost use Rattle.std.specs.Prelude.{◌≡◌, ℕ, ◌+◌, ◌-◌, ◌^◌, ◌<◌, ◌++◌, max, min};
 ghost use Rattle.std.proofs.Common.{refl};
 ghost use Rattle.archive_shape_layout.specs.Shape.{size_of};
 ghost use Rattle.archive_shape_layout.specs.Shape.Shapes.{no_shapes, more_shapes};
@@ -7,8 +7,8 @@ ghost use Rattle.archive_shape_layout.proofs.Naming.{first_types, other_types};
 ghost use Rattle.archive_shape_layout.proofs.PointerSizes.{pointer_aligns};
 ghost use Rattle.archive_forms_values.specs.Tuples.{tuple3};
 ghost use Rattle.archive_forms_laws.proofs.FieldSizes.{alone_aligned, before_aligned};
-ghost use Rattle.archive_forms_values.specs.Parts.{HasValue};
-ghost use Rattle.archive_forms_values.specs.Fields.{field, AreFieldsAt, field_position, all_three};
+ghost use Rattle.archive_forms_values.specs.Fields.{second_position, third_position};
+ghost use Rattle.archive_forms_values.specs.Calls.Tuples.{HasTuple3, AreFields3};
 
 use crate::checking::{check_tuple3_each, field_end, greater, next_multiple};
 use archive_shape::{ArchiveContext, CheckBytes, Error, Portable, Ref, Shape, Shapes};
@@ -88,22 +88,20 @@ impl<
 impl<A: Portable, B: Portable, C: Portable> ArchivedTuple3<A, B, C> {
     /// Returns the first field.
     pub fn first<'a>(this: Ref<'a, ArchivedTuple3<A, B, C>>) -> Ref<'a, A>
-        requires { HasValue (tuple3 A.shape B.shape C.shape) (all_three A.knows B.knows C.knows)
-            this.bytes.now this.pos }
+        requires { HasTuple3 A.shape B.shape C.shape A.knows B.knows C.knows this }
         ensures bytes { result.bytes ≡ this.entry.bytes }
         ensures pos { result.pos ≡ this.entry.pos }
-        ensures value { AreFieldsAt (field A.shape A.knows ∷ field B.shape B.knows ∷ field C.shape C.knows ∷ []) (all_three A.knows B.knows C.knows) this.entry.bytes.now this.entry.pos }
+        ensures value { AreFields3 A.shape B.shape C.shape A.knows B.knows C.knows this.entry }
     {
         Ref::new(this.bytes, this.pos)
     }
 
     /// Returns the second field.
     pub fn second<'a>(this: Ref<'a, ArchivedTuple3<A, B, C>>) -> Ref<'a, B>
-        requires { HasValue (tuple3 A.shape B.shape C.shape) (all_three A.knows B.knows C.knows)
-            this.bytes.now this.pos }
+        requires { HasTuple3 A.shape B.shape C.shape A.knows B.knows C.knows this }
         ensures bytes { result.bytes ≡ this.entry.bytes }
-        ensures pos { result.pos ≡ field_position A.shape no_shapes B.shape this.entry.pos }
-        ensures value { AreFieldsAt (field A.shape A.knows ∷ field B.shape B.knows ∷ field C.shape C.knows ∷ []) (all_three A.knows B.knows C.knows) this.entry.bytes.now this.entry.pos }
+        ensures pos { result.pos ≡ second_position A.shape B.shape this.entry.pos }
+        ensures value { AreFields3 A.shape B.shape C.shape A.knows B.knows C.knows this.entry }
     {
         let _len = this.bytes.len();
         let offset = next_multiple(A::SIZE, B::ALIGN);
@@ -112,12 +110,10 @@ impl<A: Portable, B: Portable, C: Portable> ArchivedTuple3<A, B, C> {
 
     /// Returns the third field.
     pub fn third<'a>(this: Ref<'a, ArchivedTuple3<A, B, C>>) -> Ref<'a, C>
-        requires { HasValue (tuple3 A.shape B.shape C.shape) (all_three A.knows B.knows C.knows)
-            this.bytes.now this.pos }
+        requires { HasTuple3 A.shape B.shape C.shape A.knows B.knows C.knows this }
         ensures bytes { result.bytes ≡ this.entry.bytes }
-        ensures pos { result.pos ≡ field_position A.shape (more_shapes B.shape no_shapes) C.shape
-            this.entry.pos }
-        ensures value { AreFieldsAt (field A.shape A.knows ∷ field B.shape B.knows ∷ field C.shape C.knows ∷ []) (all_three A.knows B.knows C.knows) this.entry.bytes.now this.entry.pos }
+        ensures pos { result.pos ≡ third_position A.shape B.shape C.shape this.entry.pos }
+        ensures value { AreFields3 A.shape B.shape C.shape A.knows B.knows C.knows this.entry }
     {
         let _len = this.bytes.len();
         let offset = next_multiple(field_end(A::SIZE, B::SIZE, B::ALIGN), C::ALIGN);

@@ -1,13 +1,12 @@
 //! Iterators over the items of an archived hash table by ascending place.
-ghost use Rattle.std.specs.Prelude.{◌≡◌, All, map};
-ghost use Rattle.archive_shape_layout.specs.Shape.{size_of};
+ghost use Rattle.std.specs.Prelude.{◌≡◌, All};
 ghost use Rattle.archive_shape_layout.specs.Shape.Shape.{table};
 ghost use Rattle.archive_forms_values.specs.Parts.{HasValue};
-ghost use Rattle.archive_hash_walking.specs.Tables.{IsTable, HasTable, Buckets, item_positions, full_places};
-ghost use Rattle.archive_hash_walking.specs.Places.{full_place};
+ghost use Rattle.archive_hash_maps.specs.Tables.{IsTable, HasTable, Buckets, item_positions};
+ghost use Rattle.archive_hash_maps.specs.Calls.Lists.{ListsFullPlaces};
 
 use crate::map::ArchivedHashTable;
-use archive_hash_walking::{FullPlaces, RawIter, full_places_at, raw_iter_at};
+use crate::walking::{FullPlaces, RawIter, full_places_at, raw_iter_at};
 use archive_shape::{Portable, Ref};
 
 impl<T: Portable> ArchivedHashTable<T> {
@@ -15,8 +14,7 @@ impl<T: Portable> ArchivedHashTable<T> {
     pub fn full_places<'a>(this: Ref<'a, ArchivedHashTable<T>>) -> FullPlaces<'a, T>
         requires { HasTable T.shape T.knows this }
         ensures there { All (λ e. HasValue T.shape T.knows e.2.bytes.now e.2.pos) result }
-        ensures places { (b : Buckets) → IsTable T.shape this.entry b
-            → result ≡ map (full_place this.entry.bytes b.controls b.target (size_of T.shape)) (full_places b) }
+        ensures places { ListsFullPlaces T.shape this.entry.bytes this.entry.pos result }
     {
         full_places_at(this.bytes, this.pos)
     }

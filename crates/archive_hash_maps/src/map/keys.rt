@@ -1,12 +1,11 @@
 //! Look-ups of keys in archived hash maps.
-ghost use Rattle.std.specs.Prelude.{◌≡◌, ℕ, IfSome, Option, Some};
-ghost use Rattle.std.specs.Option.{is_some};
+ghost use Rattle.std.specs.Prelude.{IfSome, Some};
 ghost use Rattle.archive_forms_values.specs.Parts.{HasValue};
-ghost use Rattle.archive_hash_walking.specs.Tables.{Buckets};
-ghost use Rattle.archive_hash_walking.specs.Maps.{IsThere, IsMap, HasMap, HashesTo, KeySays, HasKey, LooksUpKey, value_at, entry_at};
+ghost use Rattle.archive_hash_maps.specs.Maps.{IsThere, HasMap};
+ghost use Rattle.archive_hash_maps.specs.Calls.Keys.{GetsValue, GetsEntry, SaysKey, HasQuery};
 
 use crate::map::ArchivedHashMap;
-use archive_hash_walking::{HashedKey, search_key, value_position};
+use crate::walking::{HashedKey, search_key, value_position};
 use archive_shape::{Portable, Ref};
 use std::hash::{Hash, Hasher};
 
@@ -20,9 +19,7 @@ impl<K, V: Portable, H: Hasher + Default + Drop> ArchivedHashMap<K, V, H> {
         K: HashedKey<Q>,
         requires has { HasMap K.shape V.shape K.knows V.knows this }
         ensures there { IfSome result (IsThere K.shape V.shape K.knows V.knows) }
-        ensures answers { (b : Buckets) → IsMap K.shape V.shape this.entry b
-            → LooksUpKey (HashesTo H.is_default H.write H.finish (Q.hash_input query.now)) (KeySays K.key_of K.order this.entry.bytes.now query.now)
-            (entry_at this.entry.bytes K.shape V.shape) K.shape V.shape b result }
+        ensures answers { GetsEntry H.Default H.Hasher Q.hash_input K.key_of K.order K.shape V.shape this.entry query.now result }
     {
         match search_key::<Q, K, V, H>(this.bytes, this.pos, query) {
             Some(at) => Some((
@@ -42,9 +39,7 @@ impl<K, V: Portable, H: Hasher + Default + Drop> ArchivedHashMap<K, V, H> {
         K: HashedKey<Q>,
         requires has { HasMap K.shape V.shape K.knows V.knows this }
         ensures there { IfSome result (λ r. HasValue V.shape V.knows r.bytes.now r.pos) }
-        ensures answers { (b : Buckets) → IsMap K.shape V.shape this.entry b
-            → LooksUpKey (HashesTo H.is_default H.write H.finish (Q.hash_input query.now)) (KeySays K.key_of K.order this.entry.bytes.now query.now)
-            (value_at this.entry.bytes K.shape V.shape) K.shape V.shape b result }
+        ensures answers { GetsValue H.Default H.Hasher Q.hash_input K.key_of K.order K.shape V.shape this.entry query.now result }
     {
         match search_key::<Q, K, V, H>(this.bytes, this.pos, query) {
             Some(at) => Some(Ref::new(this.bytes, value_position::<K, V>(this.bytes, at))),
@@ -57,9 +52,7 @@ impl<K, V: Portable, H: Hasher + Default + Drop> ArchivedHashMap<K, V, H> {
     where
         K: HashedKey<Q>,
         requires has { HasMap K.shape V.shape K.knows V.knows this }
-        ensures answers { (b : Buckets) → IsMap K.shape V.shape this.entry b
-            → (found : Option ℕ) × (result ≡ is_some found)
-            × LooksUpKey (HashesTo H.is_default H.write H.finish (Q.hash_input query.now)) (KeySays K.key_of K.order this.entry.bytes.now query.now) (λ at. at) K.shape V.shape b found }
+        ensures answers { SaysKey H.Default H.Hasher Q.hash_input K.key_of K.order K.shape V.shape this.entry query.now result }
     {
         search_key::<Q, K, V, H>(this.bytes, this.pos, query).is_some()
     }
@@ -68,12 +61,9 @@ impl<K, V: Portable, H: Hasher + Default + Drop> ArchivedHashMap<K, V, H> {
     where
         K: HashedKey<Q>,
         requires has { HasMap K.shape V.shape K.knows V.knows this }
-        requires present { HasKey (HashesTo H.is_default H.write H.finish (Q.hash_input query.now))
-            K.key_of K.order this.bytes.now K.shape V.shape this.pos query.now }
+        requires present { HasQuery H.Default H.Hasher Q.hash_input K.key_of K.order K.shape V.shape this query.now }
         ensures there { HasValue V.shape V.knows result.bytes.now result.pos }
-        ensures answers { (b : Buckets) → IsMap K.shape V.shape this.entry b
-            → LooksUpKey (HashesTo H.is_default H.write H.finish (Q.hash_input query.now)) (KeySays K.key_of K.order this.entry.bytes.now query.now)
-            (value_at this.entry.bytes K.shape V.shape) K.shape V.shape b (Some result) }
+        ensures answers { GetsValue H.Default H.Hasher Q.hash_input K.key_of K.order K.shape V.shape this.entry query.now (Some result) }
     {
         ArchivedHashMap::get(this, query).unwrap()
     }

@@ -1,10 +1,10 @@
 //! Laws of look-ups of keys. Each function below has no body: its contract is the law.
-ghost use Rattle.std.specs.Prelude.{◌≡◌, ℕ, Some};
-ghost use Rattle.archive_hash_walking.specs.Tables.{Buckets};
-ghost use Rattle.archive_hash_walking.specs.Maps.{IsMap, HasMap, HashesTo, KeySays, HasKey, LooksUpKey, value_at};
+ghost use Rattle.std.specs.Prelude.{Some};
+ghost use Rattle.archive_hash_maps.specs.Maps.{HasMap};
+ghost use Rattle.archive_hash_maps.specs.Calls.Keys.{HasOneHash, GetsValue, HasQuery};
 
 use crate::map::ArchivedHashMap;
-use archive_hash_walking::HashedKey;
+use crate::walking::HashedKey;
 use archive_shape::{Portable, Ref};
 use std::hash::{Hash, Hasher};
 
@@ -15,11 +15,7 @@ pub fn found_is_present<Q: Hash, K: HashedKey<Q>, V: Portable, H: Hasher + Defau
     found: Ref<'_, V>,
 )
     requires has { HasMap K.shape V.shape K.knows V.knows this }
-    requires one { (hash other : ℕ) → HashesTo H.is_default H.write H.finish (Q.hash_input query.now) hash
-        → HashesTo H.is_default H.write H.finish (Q.hash_input query.now) other → hash ≡ other }
-    requires found { (b : Buckets) → IsMap K.shape V.shape this b
-        → LooksUpKey (HashesTo H.is_default H.write H.finish (Q.hash_input query.now)) (KeySays K.key_of K.order this.bytes.now query.now)
-        (value_at this.bytes K.shape V.shape) K.shape V.shape b (Some found) }
-    ensures { HasKey (HashesTo H.is_default H.write H.finish (Q.hash_input query.now))
-        K.key_of K.order this.entry.bytes.now K.shape V.shape this.entry.pos query.now }
+    requires one { HasOneHash H.Default H.Hasher (Q.hash_input query.now) }
+    requires found { GetsValue H.Default H.Hasher Q.hash_input K.key_of K.order K.shape V.shape this query.now (Some found) }
+    ensures { HasQuery H.Default H.Hasher Q.hash_input K.key_of K.order K.shape V.shape this.entry query.now }
 {}

@@ -1,12 +1,13 @@
 //! Look-ups of items in archived hash tables.
-ghost use Rattle.std.specs.Prelude.{◌≡◌, ℕ, IfSome};
+ghost use Rattle.std.specs.Prelude.{◌≡◌, IfSome};
 ghost use Rattle.archive_forms_values.specs.Parts.{HasValue};
-ghost use Rattle.archive_hash_walking.specs.Tables.{IsTable, HasTable, Buckets};
-ghost use Rattle.archive_hash_walking.specs.Places.{Answers, calls, item_at};
+ghost use Rattle.archive_hash_maps.specs.Tables.{HasTable};
+ghost use Rattle.archive_hash_maps.specs.Places.{item_at};
+ghost use Rattle.archive_hash_maps.specs.Calls.Tables.{MayCall, FindsItem, GetsItem};
 
 use crate::map::ArchivedHashTable;
+use crate::walking::search_table;
 use archive_hash_probing::{Group, Scan};
-use archive_hash_walking::search_table;
 use archive_shape::{Portable, Ref, Steps};
 
 impl<T: Portable> ArchivedHashTable<T> {
@@ -19,10 +20,8 @@ impl<T: Portable> ArchivedHashTable<T> {
         accepts: &F,
     ) -> (Option<Ref<'a, T>>, Steps)
         requires has { HasTable T.shape T.knows this }
-        requires callable { (at : ℕ) → HasValue T.shape T.knows this.bytes.now at
-            → F.pre accepts.now (item_at this.bytes at) }
-        ensures answers { (b : Buckets) → IsTable T.shape this.entry b
-            → Answers (calls F.post accepts.now this.entry.bytes) (item_at this.entry.bytes) T.shape b hash result.0 result.1.strides }
+        requires callable { MayCall T.shape T.knows this.bytes (F.pre accepts.now) }
+        ensures answers { FindsItem T.shape (F.post accepts.now) this.entry hash result.0 result.1.strides }
         ensures there { IfSome result.0 (λ r. HasValue T.shape T.knows r.bytes.now r.pos) }
         ensures compares { result.1.comparisons ≡ 0 }
     {
@@ -49,10 +48,8 @@ impl<T: Portable> ArchivedHashTable<T> {
         accepts: &F,
     ) -> Option<Ref<'a, T>>
         requires has { HasTable T.shape T.knows this }
-        requires callable { (at : ℕ) → HasValue T.shape T.knows this.bytes.now at
-            → F.pre accepts.now (item_at this.bytes at) }
-        ensures answers { (b : Buckets) → IsTable T.shape this.entry b
-            → (strides : ℕ) × Answers (calls F.post accepts.now this.entry.bytes) (item_at this.entry.bytes) T.shape b hash result strides }
+        requires callable { MayCall T.shape T.knows this.bytes (F.pre accepts.now) }
+        ensures answers { GetsItem T.shape (F.post accepts.now) this.entry hash result }
         ensures there { IfSome result (λ r. HasValue T.shape T.knows r.bytes.now r.pos) }
     {
         ArchivedHashTable::get_counted::<S, F>(this, hash, accepts).0
@@ -65,10 +62,8 @@ impl<T: Portable> ArchivedHashTable<T> {
         accepts: &F,
     ) -> Option<Ref<'a, T>>
         requires has { HasTable T.shape T.knows this }
-        requires callable { (at : ℕ) → HasValue T.shape T.knows this.bytes.now at
-            → F.pre accepts.now (item_at this.bytes at) }
-        ensures answers { (b : Buckets) → IsTable T.shape this.entry b
-            → (strides : ℕ) × Answers (calls F.post accepts.now this.entry.bytes) (item_at this.entry.bytes) T.shape b hash result strides }
+        requires callable { MayCall T.shape T.knows this.bytes (F.pre accepts.now) }
+        ensures answers { GetsItem T.shape (F.post accepts.now) this.entry hash result }
         ensures there { IfSome result (λ r. HasValue T.shape T.knows r.bytes.now r.pos) }
     {
         ArchivedHashTable::get_with_scan::<Group, F>(this, hash, accepts)

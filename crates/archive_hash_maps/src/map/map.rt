@@ -5,8 +5,8 @@ ghost use Rattle.archive_shape_layout.specs.Shape.Shape.{table};
 ghost use Rattle.archive_shape_layout.proofs.Naming.{first_types, other_types};
 ghost use Rattle.archive_forms_values.specs.Tuples.{tuple2};
 ghost use Rattle.archive_forms_values.specs.Parts.{both};
-ghost use Rattle.archive_hash_walking.specs.Tables.{Buckets, full_places};
-ghost use Rattle.archive_hash_walking.specs.Maps.{IsMap, HasMap};
+ghost use Rattle.archive_hash_maps.specs.Tables.{Buckets, full_places};
+ghost use Rattle.archive_hash_maps.specs.Maps.{IsMap, HasMap};
 
 use crate::map::ArchivedHashTable;
 use archive_forms_values::Entry;

@@ -1,16 +1,15 @@
 //! Iterators over the entries of an archived hash map by ascending place.
-ghost use Rattle.std.specs.Prelude.{◌≡◌, ℕ, ◌+◌, ◌^◌, ◌<◌, IfSome, All, length, map};
+ghost use Rattle.std.specs.Prelude.{ℕ, ◌+◌, ◌^◌, ◌<◌, IfSome, All, length, map};
 ghost use Rattle.std.specs.Iterator.{YieldsFirst, UpTo, item_count};
 ghost use Rattle.std.specs.Iterator.SizeHint.{IsExactHint, IsWithinCount};
 ghost use Rattle.archive_shape_layout.specs.Shape.Shape.{table};
-ghost use Rattle.archive_forms_values.specs.Tuples.{tuple2};
 ghost use Rattle.archive_forms_values.specs.Parts.{HasValue};
-ghost use Rattle.archive_hash_walking.specs.Tables.{Buckets, item_positions};
-ghost use Rattle.archive_hash_walking.specs.Maps.{IsThere, IsMap, HasMap, key_at, value_at, entry_at, pair_at};
+ghost use Rattle.archive_hash_maps.specs.Maps.{IsThere, HasMap, pair_at};
+ghost use Rattle.archive_hash_maps.specs.Calls.Lists.{ListsEntries, ListsKeys, ListsValues};
 
 use crate::map::{ArchivedHashMap, ArchivedHashTable};
+use crate::walking::RawIter;
 use archive_forms_values::{Entry, next_multiple};
-use archive_hash_walking::RawIter;
 use archive_shape::{Portable, Ref};
 use std::iter::FusedIterator;
 use std::marker::{Model, PhantomData};
@@ -29,7 +28,7 @@ pub struct Iter<'a, K, V> {
 impl<'a, K, V> Model for Iter<'a, K, V> {
     ghost use Rattle.std.specs.Prelude.{ℕ, ◌+◌, ◌^◌, ◌<◌, List, map, All};
     ghost use Rattle.archive_shape.specs.declared.references.refs.Ref.{Ref};
-    ghost use Rattle.archive_hash_walking.specs.Maps.{pair_at};
+    ghost use Rattle.archive_hash_maps.specs.Maps.{pair_at};
 
     ghost Value = { List (Ref K × Ref V) };
 
@@ -163,8 +162,7 @@ impl<K: Portable, V: Portable, H> ArchivedHashMap<K, V, H> {
     pub fn iter<'a>(this: Ref<'a, ArchivedHashMap<K, V, H>>) -> Iter<'a, K, V>
         requires { HasMap K.shape V.shape K.knows V.knows this }
         ensures there { All (IsThere K.shape V.shape K.knows V.knows) result }
-        ensures entries { (b : Buckets) → IsMap K.shape V.shape this.entry b
-            → result ≡ map (entry_at this.entry.bytes K.shape V.shape) (item_positions (tuple2 K.shape V.shape) b) }
+        ensures entries { ListsEntries K.shape V.shape this.entry result }
     {
         let _len = this.bytes.len();
         Iter {
@@ -179,8 +177,7 @@ impl<K: Portable, V: Portable, H> ArchivedHashMap<K, V, H> {
     pub fn keys<'a>(this: Ref<'a, ArchivedHashMap<K, V, H>>) -> Keys<'a, K, V>
         requires { HasMap K.shape V.shape K.knows V.knows this }
         ensures there { All (λ r. HasValue K.shape K.knows r.bytes.now r.pos) result }
-        ensures keys { (b : Buckets) → IsMap K.shape V.shape this.entry b
-            → result ≡ map (key_at this.entry.bytes) (item_positions (tuple2 K.shape V.shape) b) }
+        ensures keys { ListsKeys K.shape V.shape this.entry result }
     {
         Keys {
             entries: ArchivedHashMap::iter(this),
@@ -191,8 +188,7 @@ impl<K: Portable, V: Portable, H> ArchivedHashMap<K, V, H> {
     pub fn values<'a>(this: Ref<'a, ArchivedHashMap<K, V, H>>) -> Values<'a, K, V>
         requires { HasMap K.shape V.shape K.knows V.knows this }
         ensures there { All (λ r. HasValue V.shape V.knows r.bytes.now r.pos) result }
-        ensures values { (b : Buckets) → IsMap K.shape V.shape this.entry b
-            → result ≡ map (value_at this.entry.bytes K.shape V.shape) (item_positions (tuple2 K.shape V.shape) b) }
+        ensures values { ListsValues K.shape V.shape this.entry result }
     {
         Values {
             entries: ArchivedHashMap::iter(this),

@@ -1,13 +1,12 @@
 //! Writes the own bytes of a table, once the position of its controls is known.
-ghost use Rattle.std.specs.Prelude.{◌≡◌, ◌+◌, ◌≤◌, length, MatchResult};
-ghost use Rattle.archive_shape.specs.Bytes.{overwrite};
-ghost use Rattle.archive_hash_maps.specs.Resolving.{own_bytes, IsWithinLimits, IsRefused};
+ghost use Rattle.std.specs.Prelude.{◌≡◌, ◌+◌, ◌≤◌, length};
+ghost use Rattle.archive_hash_maps.specs.Calls.Tables.{ResolvesTable};
 
 use crate::map::{ArchivedHashMap, ArchivedHashTable};
 use archive_forms_values::{Entry, emplace_link};
 use archive_hash_probing::capacity_for_len;
 use archive_shape::{ArchivedU32, Place, Portable};
-use archive_shape_writing::Error;
+use archive_shape_layout::Error;
 
 /// The position of the controls of a table, or `None` if the table has no places.
 #[derive(Clone, Copy, Debug, PartialEq, Eq)]
@@ -44,10 +43,7 @@ impl<T: Portable> ArchivedHashTable<T> {
         out: Place<'_, ArchivedHashTable<T>>,
     ) -> Result<(), Error>
         requires { out.start + 12 ≤ length out.out.now }
-        ensures { MatchResult result
-            (λ _. IsWithinLimits len load_factor resolver.pos out.entry.pos
-            × (out.exit.0.now ≡ overwrite out.entry.out.now out.entry.start (own_bytes len load_factor resolver.pos out.entry.pos)))
-            (λ e. IsRefused len load_factor resolver.pos out.entry.pos e × (out.exit.0.now ≡ out.entry.out.now)) }
+        ensures { ResolvesTable len load_factor resolver.pos out.entry out.exit.0.now result }
     {
         let Place {
             out,
@@ -76,10 +72,7 @@ impl<K: Portable, V: Portable, H> ArchivedHashMap<K, V, H> {
         out: Place<'_, ArchivedHashMap<K, V, H>>,
     ) -> Result<(), Error>
         requires { out.start + 12 ≤ length out.out.now }
-        ensures { MatchResult result
-            (λ _. IsWithinLimits len load_factor resolver.table.pos out.entry.pos
-            × (out.exit.0.now ≡ overwrite out.entry.out.now out.entry.start (own_bytes len load_factor resolver.table.pos out.entry.pos)))
-            (λ e. IsRefused len load_factor resolver.table.pos out.entry.pos e × (out.exit.0.now ≡ out.entry.out.now)) }
+        ensures { ResolvesTable len load_factor resolver.table.pos out.entry out.exit.0.now result }
     {
         let Place {
             out,

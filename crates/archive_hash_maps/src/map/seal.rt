@@ -1,21 +1,16 @@
 //! Items of archived hash tables, and values of archived hash maps, that may be edited.
-ghost use denote.Ref.{Bor};
-ghost use Rattle.std.specs.Prelude.{◌≡◌, ℕ, ◌+◌, List, length, Option, Some, None, IfSome, MatchOption};
-ghost use Rattle.std.specs.Option.{option_map};
+ghost use Rattle.std.specs.Prelude.{◌≡◌, ◌+◌, length, IfSome};
 ghost use Rattle.archive_shape_layout.specs.Shape.Shape.{table};
-ghost use Rattle.archive_shape_layout.specs.Shape.Shapes.{no_shapes};
-ghost use Rattle.archive_forms_values.specs.Tuples.{tuple2};
-ghost use Rattle.archive_forms_values.specs.Parts.{HasValue, both};
-ghost use Rattle.archive_forms_values.specs.Fields.{field_position};
-ghost use Rattle.archive_hash_walking.specs.Tables.{Buckets, IsTableAt};
-ghost use Rattle.archive_hash_walking.specs.Places.{Answers, calls, item_at};
-ghost use Rattle.archive_hash_walking.specs.Maps.{HashesTo, KeySays, LooksUpKey, query_calls, key_at};
-ghost use Rattle.archive_forms_values.specs.Loans.{IsLent};
+ghost use Rattle.archive_forms_values.specs.Parts.{HasValue};
+ghost use Rattle.archive_hash_maps.specs.Places.{item_at};
+ghost use Rattle.archive_hash_maps.specs.Calls.Entries.{HasMapAt};
+ghost use Rattle.archive_hash_maps.specs.Calls.Seals.{HasBufferOf, GetsItemSeal, GetsValueSeal, GetsEntrySeal, GetsValueSealBy, GetsEntrySealBy};
+ghost use Rattle.archive_hash_maps.specs.Calls.Tables.{MayCallWhereLent};
 
 use crate::map::{ArchivedHashMap, ArchivedHashTable};
+use crate::walking::{HashedKey, search_key, search_table, search_with, value_position};
 use archive_forms_values::lend_entry;
 use archive_hash_probing::Group;
-use archive_hash_walking::{HashedKey, search_key, search_table, search_with, value_position};
 use archive_shape::{OwnSeal, Portable, Ref, Seal};
 use std::hash::{Hash, Hasher};
 
@@ -28,14 +23,10 @@ impl<T: Portable> ArchivedHashTable<T> {
         accepts: &F,
     ) -> Option<Seal<'a, T>>
         requires has { HasValue (table T.shape) T.knows this.bytes.now this.pos }
-        requires callable { (lent : Bor (List ℕ)) (at : ℕ) → lent.now ≡ this.bytes.now
-            → HasValue T.shape T.knows lent.now at → F.pre accepts.now (item_at lent at) }
-        ensures whole { IfSome result (λ r. (r.bytes.ghost_name ≡ this.entry.bytes.ghost_name)
-            × (r.bytes.now ≡ this.entry.bytes.now)) }
+        requires callable { MayCallWhereLent T.shape T.knows this.bytes.now (F.pre accepts.now) }
+        ensures whole { IfSome result (HasBufferOf this.entry) }
         ensures there { IfSome result (λ r. HasValue T.shape T.knows r.bytes.now r.pos) }
-        ensures answers { (b : Buckets) → IsTableAt this.entry.bytes.now T.shape this.entry.pos b
-            → (lent : Bor (List ℕ)) × (strides : ℕ) × (lent.now ≡ this.entry.bytes.now)
-            × Answers (calls F.post accepts.now lent) (λ at. at) T.shape b hash (option_map (λ r. r.pos) result) strides }
+        ensures answers { GetsItemSeal T.shape (F.post accepts.now) this.entry hash result }
     {
         let Seal { bytes, pos, .. } = this;
         let shared: &[u8] = bytes;
@@ -58,15 +49,10 @@ impl<K, V: Portable, H: Hasher + Default + Drop> ArchivedHashMap<K, V, H> {
     ) -> Option<Seal<'a, V>>
     where
         K: HashedKey<Q>,
-        requires has { HasValue (table (tuple2 K.shape V.shape)) (both K.knows V.knows)
-            this.bytes.now this.pos }
-        ensures whole { IfSome result (λ r. (r.bytes.ghost_name ≡ this.entry.bytes.ghost_name)
-            × (r.bytes.now ≡ this.entry.bytes.now)) }
+        requires has { HasMapAt K.shape V.shape K.knows V.knows this.bytes.now this.pos }
+        ensures whole { IfSome result (HasBufferOf this.entry) }
         ensures there { IfSome result (λ r. HasValue V.shape V.knows r.bytes.now r.pos) }
-        ensures answers { (b : Buckets) → IsTableAt this.entry.bytes.now (tuple2 K.shape V.shape)
-            this.entry.pos b
-            → LooksUpKey (HashesTo H.is_default H.write H.finish (Q.hash_input query.now)) (KeySays K.key_of K.order this.entry.bytes.now query.now)
-            (field_position K.shape no_shapes V.shape) K.shape V.shape b (option_map (λ r. r.pos) result) }
+        ensures answers { GetsValueSeal H.Default H.Hasher Q.hash_input K.key_of K.order K.shape V.shape this.entry query.now result }
     {
         let Seal { bytes, pos, .. } = this;
         match search_key::<Q, K, V, H>(bytes, pos, query) {
@@ -86,17 +72,10 @@ impl<K, V: Portable, H: Hasher + Default + Drop> ArchivedHashMap<K, V, H> {
     ) -> Option<(Ref<'a, K>, OwnSeal<'a, V>)>
     where
         K: HashedKey<Q>,
-        requires has { HasValue (table (tuple2 K.shape V.shape)) (both K.knows V.knows)
-            this.bytes.now this.pos }
+        requires has { HasMapAt K.shape V.shape K.knows V.knows this.bytes.now this.pos }
         ensures there { IfSome result (λ r. HasValue K.shape K.knows r.0.bytes.now r.0.pos) }
         ensures own { IfSome result (λ r. length r.1.own.now ≡ V.SIZE) }
-        ensures answers { (b : Buckets) → IsTableAt this.entry.bytes.now (tuple2 K.shape V.shape)
-            this.entry.pos b
-            → (found : Option ℕ)
-            × LooksUpKey (HashesTo H.is_default H.write H.finish (Q.hash_input query.now)) (KeySays K.key_of K.order this.entry.bytes.now query.now) (λ at. at) K.shape V.shape b found
-            × MatchOption result
-            (found ≡ None)
-            (λ r. (at : ℕ) × (found ≡ Some at) × IsLent V.SIZE this.entry.bytes.now at (field_position K.shape no_shapes V.shape at) r.0 r.1) }
+        ensures answers { GetsEntrySeal H.Default H.Hasher Q.hash_input K.key_of K.order K.Portable V.Portable this.entry query.now result }
     {
         let Seal { bytes, pos, .. } = this;
         match search_key::<Q, K, V, H>(bytes, pos, query) {
@@ -117,18 +96,11 @@ impl<K: Portable, V: Portable, H: Hasher + Default + Drop> ArchivedHashMap<K, V,
         query: &Q,
         accepts: &F,
     ) -> Option<Seal<'a, V>>
-        requires has { HasValue (table (tuple2 K.shape V.shape)) (both K.knows V.knows)
-            this.bytes.now this.pos }
-        requires callable { (lent : Bor (List ℕ)) (at : ℕ) → lent.now ≡ this.bytes.now
-            → HasValue K.shape K.knows lent.now at → F.pre accepts.now query (key_at lent at) }
-        ensures whole { IfSome result (λ r. (r.bytes.ghost_name ≡ this.entry.bytes.ghost_name)
-            × (r.bytes.now ≡ this.entry.bytes.now)) }
+        requires has { HasMapAt K.shape V.shape K.knows V.knows this.bytes.now this.pos }
+        requires callable { MayCallWhereLent K.shape K.knows this.bytes.now (F.pre accepts.now query) }
+        ensures whole { IfSome result (HasBufferOf this.entry) }
         ensures there { IfSome result (λ r. HasValue V.shape V.knows r.bytes.now r.pos) }
-        ensures answers { (b : Buckets) → IsTableAt this.entry.bytes.now (tuple2 K.shape V.shape)
-            this.entry.pos b
-            → (lent : Bor (List ℕ)) × (lent.now ≡ this.entry.bytes.now)
-            × LooksUpKey (HashesTo H.is_default H.write H.finish (Q.hash_input query.now)) (query_calls F.post accepts.now query.entry lent)
-            (field_position K.shape no_shapes V.shape) K.shape V.shape b (option_map (λ r. r.pos) result) }
+        ensures answers { GetsValueSealBy H.Default H.Hasher Q.hash_input (F.post accepts.now) K.shape V.shape this.entry query.entry result }
     {
         let Seal { bytes, pos, .. } = this;
         match search_with::<Q, K, V, H, F>(bytes, pos, query, accepts) {
@@ -148,19 +120,11 @@ impl<K: Portable, V: Portable, H: Hasher + Default + Drop> ArchivedHashMap<K, V,
         query: &Q,
         accepts: &F,
     ) -> Option<(Ref<'a, K>, OwnSeal<'a, V>)>
-        requires has { HasValue (table (tuple2 K.shape V.shape)) (both K.knows V.knows)
-            this.bytes.now this.pos }
-        requires callable { (lent : Bor (List ℕ)) (at : ℕ) → lent.now ≡ this.bytes.now
-            → HasValue K.shape K.knows lent.now at → F.pre accepts.now query (key_at lent at) }
+        requires has { HasMapAt K.shape V.shape K.knows V.knows this.bytes.now this.pos }
+        requires callable { MayCallWhereLent K.shape K.knows this.bytes.now (F.pre accepts.now query) }
         ensures there { IfSome result (λ r. HasValue K.shape K.knows r.0.bytes.now r.0.pos) }
         ensures own { IfSome result (λ r. length r.1.own.now ≡ V.SIZE) }
-        ensures answers { (b : Buckets) → IsTableAt this.entry.bytes.now (tuple2 K.shape V.shape)
-            this.entry.pos b
-            → (lent : Bor (List ℕ)) × (found : Option ℕ) × (lent.now ≡ this.entry.bytes.now)
-            × LooksUpKey (HashesTo H.is_default H.write H.finish (Q.hash_input query.now)) (query_calls F.post accepts.now query.entry lent) (λ at. at) K.shape V.shape b found
-            × MatchOption result
-            (found ≡ None)
-            (λ r. (at : ℕ) × (found ≡ Some at) × IsLent V.SIZE this.entry.bytes.now at (field_position K.shape no_shapes V.shape at) r.0 r.1) }
+        ensures answers { GetsEntrySealBy H.Default H.Hasher Q.hash_input (F.post accepts.now) K.Portable V.Portable this.entry query.entry result }
     {
         let Seal { bytes, pos, .. } = this;
         match search_with::<Q, K, V, H, F>(bytes, pos, query, accepts) {

@@ -2,14 +2,13 @@
 ghost use Rattle.std.specs.Prelude.{◌≡◌, ◌+◌, ◌≤◌, ◌↔◌, [], length, IsTrue};
 ghost use Rattle.std.proofs.Common.{refl, lit<, lit≤};
 ghost use Rattle.archive_shape_layout.specs.Shape.Shape.{table};
-ghost use Rattle.archive_shape_layout.specs.Content.{Names};
-ghost use Rattle.archive_shape_layout.specs.Content.Part.{at};
 ghost use Rattle.archive_shape.specs.Kept.{IsWithin};
-ghost use Rattle.archive_shape.specs.Checks.{Checks, Moves};
-ghost use Rattle.archive_hash_walking.specs.Tables.{IsTable, HasTable, Buckets, full_places};
+ghost use Rattle.archive_shape.specs.Checks.{Moves};
+ghost use Rattle.archive_hash_maps.specs.Tables.{IsTable, HasTable, Buckets, full_places};
+ghost use Rattle.archive_hash_maps.specs.Calls.Checks.{ChecksTable};
 
-use archive_hash_checking::check_table_each;
-use archive_hash_walking::{buckets_at, number_at};
+use crate::checking::check_table_each;
+use crate::walking::{buckets_at, number_at};
 use archive_shape::{ArchiveContext, CheckBytes, Error, NoUndef, Portable, Ref, Shape};
 use std::alloc::{AllocError, Global};
 use std::marker::PhantomData;
@@ -72,8 +71,7 @@ impl<T> ArchivedHashTable<T> {
         requires fits { this.pos + 12 ≤ length this.bytes.now }
         requires range { IsWithin (C.kept context.old) (length this.bytes.now) }
         ensures moves { Moves (C.kept context.old) result (C.kept context.new) }
-        ensures exact { (names : Names) → T.knows names
-            → Checks names this.entry.bytes.now (at this.entry.pos (table T.shape)) (C.kept context.old) result (C.kept context.new) }
+        ensures exact { ChecksTable C.kept T.Portable this.entry context.old result context.new }
     {
         let bytes = this.bytes;
         check_table_each::<T, C, _>(

@@ -1,11 +1,6 @@
 //! Checks whether two archived hash sets are equal.
-ghost use Rattle.std.specs.Prelude.{◌≡◌, ◌⊎◌, true, false, length, map, All, Contains};
-ghost use Rattle.archive_shape.specs.declared.references.refs.Ref.{Ref};
-ghost use Rattle.archive_hash_walking.specs.Tables.{Buckets, full_places};
-ghost use Rattle.archive_hash_walking.specs.Maps.{key_at};
-ghost use Rattle.archive_hash_walking.specs.Equal.{KeyHashesTo};
-ghost use Rattle.archive_hash_maps.specs.Sets.{IsSet, HasSet, key_positions};
-ghost use Rattle.archive_hash_maps.specs.EqualKeys.{HasEqualKey};
+ghost use Rattle.archive_hash_maps.specs.Sets.{HasSet};
+ghost use Rattle.archive_hash_maps.specs.Calls.Equal.{SetsAlike, SetsUnlike};
 
 use crate::map::ArchivedHashMap;
 use crate::set::ArchivedHashSet;
@@ -23,16 +18,8 @@ impl<K: ArchivedHash, H: Hasher + Default + Drop> ArchivedHashSet<K, H> {
     ) -> bool
         requires this { HasSet K.shape K.knows this.bytes.now this.pos }
         requires other { HasSet K.shape K.knows other.bytes.now other.pos }
-        ensures equal { (b c : Buckets) → IsSet K.shape this.entry b → IsSet K.shape other.entry c
-            → result ≡ true
-            → (length (full_places b) ≡ length (full_places c))
-            × All (λ (key : Ref K). HasEqualKey (KeyHashesTo H.is_default H.write H.finish K.shape K.knows K.hashed) K.shape K.knows K.equal other.entry.bytes.now c key true)
-            (map (key_at this.entry.bytes) (key_positions K.shape b)) }
-        ensures unequal { (b c : Buckets) → IsSet K.shape this.entry b → IsSet K.shape other.entry c
-            → result ≡ false
-            → (length (full_places b) ≡ length (full_places c) → ⊥)
-            ⊎ ((key : Ref K) × Contains (map (key_at this.entry.bytes) (key_positions K.shape b)) key
-            × HasEqualKey (KeyHashesTo H.is_default H.write H.finish K.shape K.knows K.hashed) K.shape K.knows K.equal other.entry.bytes.now c key false) }
+        ensures equal { SetsAlike H.Default H.Hasher K.hashed K.equal K.Portable this.entry other.entry result }
+        ensures unequal { SetsUnlike H.Default H.Hasher K.hashed K.equal K.Portable this.entry other.entry result }
     {
         ArchivedHashMap::equals(as_map(this), as_map(other))
     }

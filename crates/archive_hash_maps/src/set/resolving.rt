@@ -1,12 +1,11 @@
 //! Writes the own bytes of a set, once the position of its controls is known.
-ghost use Rattle.std.specs.Prelude.{◌≡◌, ◌+◌, ◌≤◌, length, MatchResult};
-ghost use Rattle.archive_shape.specs.Bytes.{overwrite};
-ghost use Rattle.archive_hash_maps.specs.Resolving.{own_bytes, IsWithinLimits, IsRefused};
+ghost use Rattle.std.specs.Prelude.{◌+◌, ◌≤◌, length};
+ghost use Rattle.archive_hash_maps.specs.Calls.Tables.{ResolvesTable};
 
 use crate::map::{ArchivedHashMap, HashMapResolver, HashTableResolver};
 use crate::set::ArchivedHashSet;
 use archive_shape::{Place, Portable};
-use archive_shape_writing::Error;
+use archive_shape_layout::Error;
 
 /// The position of the controls of a set's table, if the table has places.
 #[derive(Clone, Copy, Debug, PartialEq, Eq)]
@@ -26,10 +25,7 @@ impl<K: Portable, H> ArchivedHashSet<K, H> {
         out: Place<'_, ArchivedHashSet<K, H>>,
     ) -> Result<(), Error>
         requires { out.start + 12 ≤ length out.out.now }
-        ensures { MatchResult result
-            (λ _. IsWithinLimits len load_factor resolver.table.pos out.entry.pos
-            × (out.exit.0.now ≡ overwrite out.entry.out.now out.entry.start (own_bytes len load_factor resolver.table.pos out.entry.pos)))
-            (λ e. IsRefused len load_factor resolver.table.pos out.entry.pos e × (out.exit.0.now ≡ out.entry.out.now)) }
+        ensures { ResolvesTable len load_factor resolver.table.pos out.entry out.exit.0.now result }
     {
         let Place {
             out,

@@ -1,12 +1,12 @@
 //! The type of archived hash sets, its layout and its length.
-ghost use Rattle.std.specs.Prelude.{◌≡◌, ◌++◌, ◌↔◌, [], length, map, All, IsTrue};
+ghost use Rattle.std.specs.Prelude.{◌≡◌, ◌++◌, ◌↔◌, [], length, All, IsTrue};
 ghost use Rattle.std.proofs.Common.{refl, lit<, lit≤};
 ghost use Rattle.archive_shape_layout.proofs.Naming.{first_types};
 ghost use Rattle.archive_forms_values.specs.Parts.{HasValue};
-ghost use Rattle.archive_hash_walking.specs.Tables.{Buckets, full_places};
-ghost use Rattle.archive_hash_walking.specs.Places.{item_at};
-ghost use Rattle.archive_hash_walking.specs.Maps.{key_at};
-ghost use Rattle.archive_hash_maps.specs.Sets.{IsSet, set_shape, set_knows, HasSet, key_positions};
+ghost use Rattle.archive_hash_maps.specs.Tables.{Buckets, full_places};
+ghost use Rattle.archive_hash_maps.specs.Places.{item_at};
+ghost use Rattle.archive_hash_maps.specs.Sets.{IsSet, set_shape, set_knows, HasSet};
+ghost use Rattle.archive_hash_maps.specs.Calls.Lists.{ListsElements};
 
 use crate::map::ArchivedHashMap;
 use crate::set::Iter;
@@ -87,8 +87,7 @@ impl<K: Portable, H> ArchivedHashSet<K, H> {
     pub fn iter<'a>(this: Ref<'a, ArchivedHashSet<K, H>>) -> Iter<'a, K>
         requires { HasSet K.shape K.knows this.bytes.now this.pos }
         ensures there { All (λ r. HasValue K.shape K.knows r.bytes.now r.pos) result }
-        ensures keys { (b : Buckets) → IsSet K.shape this.entry b
-            → result ≡ map (key_at this.entry.bytes) (key_positions K.shape b) }
+        ensures keys { ListsElements K.shape this.entry result }
     {
         Iter::new(ArchivedHashMap::keys(as_map(this)))
     }

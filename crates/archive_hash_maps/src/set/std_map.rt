@@ -1,11 +1,9 @@
 //! Checks whether an archived hash map is equal to a map of std.
-ghost use Rattle.std.specs.Prelude.{◌≡◌, ◌⊎◌, true, false, length, All, Contains};
-ghost use Rattle.archive_hash_walking.specs.Tables.{Buckets, full_places};
-ghost use Rattle.archive_hash_walking.specs.Maps.{IsMap, HasMap, HashesTo};
-ghost use Rattle.archive_hash_maps.specs.StdMaps.{LeadsTo};
+ghost use Rattle.archive_hash_maps.specs.Maps.{HasMap};
+ghost use Rattle.archive_hash_maps.specs.Calls.Equal.{FindsPair, HasAllPairs, LacksPair};
 
 use crate::map::ArchivedHashMap;
-use archive_hash_walking::HashedKey;
+use crate::walking::HashedKey;
 use archive_shape::{ArchivedKey, Ref};
 use std::alloc::Allocator;
 use std::collections::HashMap;
@@ -18,8 +16,7 @@ fn leads_to<Q: Hash, W, K: HashedKey<Q>, V: ArchivedKey<W>, H: Hasher + Default 
     value: &W,
 ) -> bool
     requires { HasMap K.shape V.shape K.knows V.knows this }
-    ensures { (b : Buckets) → IsMap K.shape V.shape this.entry b
-        → LeadsTo K.key_of K.order V.key_of V.order (λ q. HashesTo H.is_default H.write H.finish (Q.hash_input q)) this.entry.bytes.now K.shape V.shape b (key.now, value.now) result }
+    ensures { FindsPair H.Default H.Hasher Q.hash_input K.key_of K.order K.shape V.key_of V.order V.shape this.entry (key.now, value.now) result }
 {
     match ArchivedHashMap::get(this, key) {
         Some(found) => V::same(&found, value),
@@ -39,13 +36,8 @@ pub fn eq_hash_map<
     A: Allocator,
 >(this: &Ref<'_, ArchivedHashMap<K, V, H>>, other: &HashMap<Q, W, S, A>) -> bool
     requires { HasMap K.shape V.shape K.knows V.knows this.now }
-    ensures equal { (b : Buckets) → IsMap K.shape V.shape this.now b → result ≡ true
-        → (length (full_places b) ≡ length other.now.entries)
-        × All (λ e. LeadsTo K.key_of K.order V.key_of V.order (λ q. HashesTo H.is_default H.write H.finish (Q.hash_input q)) this.now.bytes.now K.shape V.shape b e true) other.now.entries }
-    ensures unequal { (b : Buckets) → IsMap K.shape V.shape this.now b → result ≡ false
-        → (length (full_places b) ≡ length other.now.entries → ⊥)
-        ⊎ ((e : _) × Contains other.now.entries e
-        × LeadsTo K.key_of K.order V.key_of V.order (λ q. HashesTo H.is_default H.write H.finish (Q.hash_input q)) this.now.bytes.now K.shape V.shape b e false) }
+    ensures equal { HasAllPairs H.Default H.Hasher Q.hash_input K.key_of K.order K.shape V.key_of V.order V.shape this.now other.now.entries result }
+    ensures unequal { LacksPair H.Default H.Hasher Q.hash_input K.key_of K.order K.shape V.key_of V.order V.shape this.now other.now.entries result }
 {
     if ArchivedHashMap::len(*this) != other.len() {
         return false;

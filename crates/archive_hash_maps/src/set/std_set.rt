@@ -1,12 +1,9 @@
 //! Checks whether an archived hash set is equal to a set of std.
-ghost use Rattle.std.specs.Prelude.{◌≡◌, ◌⊎◌, true, false, length, All, Contains};
-ghost use Rattle.archive_hash_walking.specs.Tables.{Buckets, full_places};
-ghost use Rattle.archive_hash_walking.specs.Maps.{HashesTo};
-ghost use Rattle.archive_hash_maps.specs.Sets.{IsSet, HasSet};
-ghost use Rattle.archive_hash_maps.specs.StdMaps.{IsSaid};
+ghost use Rattle.archive_hash_maps.specs.Sets.{HasSet};
+ghost use Rattle.archive_hash_maps.specs.Calls.Equal.{HasAllKeys, LacksKey};
 
 use crate::set::ArchivedHashSet;
-use archive_hash_walking::HashedKey;
+use crate::walking::HashedKey;
 use archive_shape::Ref;
 use std::alloc::Allocator;
 use std::collections::HashSet;
@@ -22,13 +19,8 @@ pub fn eq_hash_set<
     A: Allocator,
 >(this: &Ref<'_, ArchivedHashSet<K, H>>, other: &HashSet<Q, S, A>) -> bool
     requires { HasSet K.shape K.knows this.now.bytes.now this.now.pos }
-    ensures equal { (b : Buckets) → IsSet K.shape this.now b → result ≡ true
-        → (length (full_places b) ≡ length other.now.keys)
-        × All (λ q. IsSaid K.key_of K.order (λ x. HashesTo H.is_default H.write H.finish (Q.hash_input x)) this.now.bytes.now K.shape b q true) other.now.keys }
-    ensures unequal { (b : Buckets) → IsSet K.shape this.now b → result ≡ false
-        → (length (full_places b) ≡ length other.now.keys → ⊥)
-        ⊎ ((q : Q) × Contains other.now.keys q
-        × IsSaid K.key_of K.order (λ x. HashesTo H.is_default H.write H.finish (Q.hash_input x)) this.now.bytes.now K.shape b q false) }
+    ensures equal { HasAllKeys H.Default H.Hasher Q.hash_input K.key_of K.order K.shape this.now other.now.keys result }
+    ensures unequal { LacksKey H.Default H.Hasher Q.hash_input K.key_of K.order K.shape this.now other.now.keys result }
 {
     if ArchivedHashSet::len(*this) != other.len() {
         return false;

@@ -1,18 +1,17 @@
 //! First fit: the places where the items of a table are inserted.
-ghost use Rattle.std.specs.Prelude.{◌≡◌, ◌≢◌, ℕ, ◌+◌, ◌*◌, ◌^◌, ◌<◌, ◌≤◌, ◌⊎◌, [], length, replicate, slice_index, IfSome, IfNone, MatchResult};
+ghost use Rattle.std.specs.Prelude.{◌≡◌, ℕ, ◌+◌, ◌*◌, ◌^◌, ◌<◌, ◌≤◌, [], length, replicate, slice_index, IfSome, IfNone};
 ghost use Rattle.std.specs.List.{find};
-ghost use Rattle.archive_shape_canonical.specs.FirstFit.{capacity_for, fitted_from, hash_tag, written_controls};
+ghost use Rattle.archive_shape_canonical.specs.FirstFit.{fitted_from, written_controls};
 ghost use Rattle.archive_shape_canonical.specs.Strides.{places_for, places_shown};
-ghost use Rattle.archive_shape_canonical.specs.ShapeLayout.Content.{control_count};
-ghost use Rattle.archive_shape_canonical.specs.Reach.{is_empty, Reaches};
-ghost use Rattle.archive_shape_writing.specs.declared.error.Error.TheVariants.{InvalidLoadFactor, LengthTooLarge};
-ghost use Rattle.archive_hash_probing.specs.Controls.{AreControls, with_control};
-ghost use Rattle.archive_hash_probing.specs.Loads.{IsLoadFactor};
+ghost use Rattle.archive_shape_layout.specs.Content.{control_count};
+ghost use Rattle.archive_shape_canonical.specs.Reach.{is_empty};
+ghost use Rattle.archive_hash_probing.specs.Controls.{AreControls};
+ghost use Rattle.archive_hash_probing.specs.Calls.{CountsPlaces, WritesTag, AreDistinct, AreReached, AreTagged};
 
 use crate::places::search::place_of;
 use crate::places::strides::Strides;
 use crate::scanning::{Scan, stride_empties, tag_of};
-use archive_shape_writing::Error;
+use archive_shape_layout::Error;
 
 /// Returns the number of places of a table of `len` items, in which at most `load_factor.0` of `load_factor.1` places
 /// may be full. It is greater than `len`, or 0 if `len` is 0.
@@ -22,10 +21,7 @@ use archive_shape_writing::Error;
 /// Returns `InvalidLoadFactor` if none or more than all of the places may be full, and `LengthTooLarge` if there would
 /// be 2^32 places or more.
 pub fn capacity_for_len(len: usize, load_factor: (usize, usize)) -> Result<usize, Error>
-    ensures { MatchResult result
-        (λ capacity. IsLoadFactor load_factor × (capacity ≡ capacity_for len load_factor.0 load_factor.1) × (capacity < 2 ^ 32))
-        (λ e. ((IsLoadFactor load_factor → ⊥) × (e ≡ InvalidLoadFactor))
-        ⊎ (IsLoadFactor load_factor × (2 ^ 32 ≤ capacity_for len load_factor.0 load_factor.1) × (e ≡ LengthTooLarge))) }
+    ensures { CountsPlaces len load_factor result }
 {
     let (most, places) = load_factor;
     if most == 0 || most > places {
@@ -86,7 +82,7 @@ pub fn insert<S: Scan>(controls: &mut [u8], capacity: usize, hash: u64) -> Optio
     ensures first { result ≡ find (λ p. is_empty (slice_index controls.old p)) (places_for hash capacity) }
     ensures bound { IfSome result (λ place. place < capacity) }
     ensures full { IfNone result ((place : ℕ) → place < capacity → slice_index controls.old place < 128) }
-    ensures written { IfSome result (λ place. controls.new ≡ with_control controls.old capacity place (hash_tag hash)) }
+    ensures written { WritesTag controls.old capacity hash result controls.new }
     ensures kept { IfNone result (controls.new ≡ controls.old) }
     ensures controls { AreControls controls.new capacity }
 {
@@ -123,12 +119,9 @@ pub fn write_controls<S: Scan>(
     ensures written { controls.new ≡ written_controls capacity hashes.now places.new }
     ensures controls { AreControls controls.new capacity }
     ensures bound { (j : ℕ) → j < length hashes.now → slice_index places.new j < capacity }
-    ensures distinct { (i j : ℕ) → i < j → j < length hashes.now
-        → slice_index places.new i ≢ slice_index places.new j }
-    ensures reached { (j : ℕ) → j < length hashes.now
-        → Reaches controls.new (slice_index hashes.now j) capacity (slice_index places.new j) }
-    ensures tags { (j : ℕ) → j < length hashes.now
-        → slice_index controls.new (slice_index places.new j) ≡ hash_tag (slice_index hashes.now j) }
+    ensures distinct { AreDistinct places.new (length hashes.now) }
+    ensures reached { AreReached controls.new capacity hashes.now places.new }
+    ensures tags { AreTagged controls.new hashes.now places.new }
 {
     clear(controls);
     for i in 0..hashes.len() {

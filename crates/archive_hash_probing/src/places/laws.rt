@@ -1,11 +1,11 @@
 //! Laws of look-ups and strides. Each function below has no body: its contract is the law.
-ghost use Rattle.std.specs.Prelude.{◌≡◌, ℕ, ◌+◌, ◌^◌, ◌<◌, ◌≤◌, ◌==◌, true, false, not, [], length, slice_index, Some, None};
-ghost use Rattle.std.specs.List.{list_any, prefix_len};
+ghost use Rattle.std.specs.Prelude.{◌≡◌, ◌^◌, ◌<◌, ◌≤◌, ◌==◌, true, [], length, Some, None};
+ghost use Rattle.std.specs.List.{list_any};
 ghost use Rattle.archive_shape_canonical.specs.FirstFit.{fitted_from, written_controls};
 ghost use Rattle.archive_shape_canonical.specs.Strides.{places_for, sixteens, strides};
-ghost use Rattle.archive_shape_canonical.specs.Reach.{searched};
 ghost use Rattle.archive_hash_probing.specs.Controls.{AreControls};
-ghost use Rattle.archive_hash_probing.specs.Search.{shows, IsLookup};
+ghost use Rattle.archive_hash_probing.specs.Search.{IsLookup};
+ghost use Rattle.archive_hash_probing.specs.Calls.{strides_to, AtFullPlaces, IsDecided, AreDecided, AcceptsOnly, AcceptsNone, FindsFirst};
 
 use crate::places::search::Found;
 
@@ -36,15 +36,10 @@ pub fn find_in_written<F: Fn(usize) -> bool>(
     requires fitted { places.now ≡ fitted_from capacity [] hashes.now }
     requires written { controls.now ≡ written_controls capacity hashes.now places.now }
     requires answer { IsLookup (F.post accepts.now) controls.now capacity hash found.place found.strides }
-    requires never { (i : ℕ) → i < length hashes.now → F.post accepts.now (slice_index places.now i) true
-        → F.post accepts.now (slice_index places.now i) false → ⊥ }
-    requires alike { (i : ℕ) → i < length hashes.now → F.post accepts.now (slice_index places.now i) true
-        → slice_index hashes.now i ≡ hash }
-    ensures first { (j : ℕ) → j < length hashes.now → F.post accepts.now (slice_index places.now j) true
-        → ((i : ℕ) → i < j → F.post accepts.now (slice_index places.now i) true → ⊥)
-        → found.place ≡ Some (slice_index places.now j) }
-    ensures absent { ((i : ℕ) → i < length hashes.now → F.post accepts.now (slice_index places.now i) true → ⊥)
-        → found.place ≡ None }
+    requires never { AreDecided (F.post accepts.now) places.now (length hashes.now) }
+    requires alike { AcceptsOnly (F.post accepts.now) places.now hashes.now hash }
+    ensures first { FindsFirst (F.post accepts.now) places.now (length hashes.now) found.place }
+    ensures absent { AcceptsNone (F.post accepts.now) places.now (length hashes.now) → found.place ≡ None }
 {}
 
 /// There is one result, with one number of strides: scans of every width return the same.
@@ -58,8 +53,7 @@ pub fn one_answer<F: Fn(usize) -> bool>(
 )
     requires some { 0 < capacity }
     requires controls { AreControls controls.now capacity }
-    requires never { (place : ℕ) → place < capacity → slice_index controls.now place < 128
-        → F.post accepts.now place true → F.post accepts.now place false → ⊥ }
+    requires never { AtFullPlaces controls.now capacity (IsDecided (F.post accepts.now)) }
     requires one { IsLookup (F.post accepts.now) controls.now capacity hash one.place one.strides }
     requires other { IsLookup (F.post accepts.now) controls.now capacity hash other.place other.strides }
     ensures { one ≡ other }
@@ -77,7 +71,6 @@ pub fn counts_to_the_place<F: Fn(usize) -> bool>(
     requires some { 0 < capacity }
     requires controls { AreControls controls.now capacity }
     requires found { IsLookup (F.post accepts.now) controls.now capacity hash (Some place) count }
-    requires never { F.post accepts.now place true → F.post accepts.now place false → ⊥ }
-    ensures { count ≡ prefix_len (λ p. not (shows capacity place p))
-        (searched controls.now (strides hash capacity)) + 1 }
+    requires never { IsDecided (F.post accepts.now) place }
+    ensures { count ≡ strides_to controls.now hash capacity place }
 {}

@@ -1,11 +1,11 @@
 //! A look-up along the strides of a hash.
-ghost use Rattle.std.specs.Prelude.{◌≡◌, ℕ, ◌+◌, ◌*◌, ◌%◌, ◌^◌, ◌<◌, ◌≤◌, true, false, length, slice_index, IfSome, MatchOption, Some};
+ghost use Rattle.std.specs.Prelude.{◌≡◌, ◌+◌, ◌*◌, ◌%◌, ◌^◌, ◌<◌, ◌≤◌, length, IfSome};
 ghost use Rattle.std.specs.List.{list_any};
-ghost use Rattle.archive_shape_canonical.specs.FirstFit.{hash_tag};
 ghost use Rattle.archive_shape_canonical.specs.Strides.{sixteens};
-ghost use Rattle.archive_shape_canonical.specs.Reach.{is_empty, shown, Reaches};
+ghost use Rattle.archive_shape_canonical.specs.Reach.{is_empty, shown};
 ghost use Rattle.archive_hash_probing.specs.Controls.{AreControls};
-ghost use Rattle.archive_hash_probing.specs.Search.{IsFoundIn, IsLookup, IsRefused};
+ghost use Rattle.archive_hash_probing.specs.Search.{IsLookup};
+ghost use Rattle.archive_hash_probing.specs.Calls.{AtFullPlaces, HasAccepted, FindsInStride, FindsReached};
 
 use crate::places::strides::Strides;
 use crate::scanning::{Scan, stride_empties, stride_matches, tag_of};
@@ -56,13 +56,8 @@ fn find_in_stride<S: Scan, F: Fn(usize) -> bool>(
     requires small { capacity < 2 ^ 32 }
     requires within { position + 16 ≤ length controls.now }
     requires controls { AreControls controls.now capacity }
-    requires callable { (place : ℕ) → place < capacity → slice_index controls.now place < 128
-        → F.pre accepts.now place }
-    ensures { MatchOption result
-        (IsRefused (λ p. F.post accepts.now p true) (λ p. F.post accepts.now p false)
-        controls.now capacity tag position)
-        (λ place. IsFoundIn (λ p. F.post accepts.now p true) (λ p. F.post accepts.now p false)
-        controls.now capacity tag position place) }
+    requires callable { AtFullPlaces controls.now capacity (F.pre accepts.now) }
+    ensures { FindsInStride (F.post accepts.now) controls.now capacity tag position result }
 {
     let mut marks = stride_matches::<S>(controls, position, tag);
     while let Some(lane) = marks.lowest_set_bit() {
@@ -88,15 +83,11 @@ pub fn find<S: Scan, F: Fn(usize) -> bool>(
     requires some { 0 < capacity }
     requires small { capacity < 2 ^ 32 }
     requires controls { AreControls controls.now capacity }
-    requires callable { (place : ℕ) → place < capacity → slice_index controls.now place < 128
-        → F.pre accepts.now place }
+    requires callable { AtFullPlaces controls.now capacity (F.pre accepts.now) }
     ensures answer { IsLookup (F.post accepts.now) controls.now capacity hash result.place result.strides }
-    ensures item { IfSome result.place (λ place. (place < capacity) × (slice_index controls.now place < 128) × F.post accepts.now place true) }
+    ensures item { IfSome result.place (HasAccepted (F.post accepts.now) controls.now capacity) }
     ensures few { result.strides ≤ sixteens capacity }
-    ensures findable { (place : ℕ) → Reaches controls.now hash capacity place → slice_index controls.now place ≡ hash_tag hash
-        → (F.post accepts.now place false → ⊥)
-        → ((p : ℕ) → p < capacity → slice_index controls.now p < 128 → F.post accepts.now p true → p ≡ place)
-        → result.place ≡ Some place }
+    ensures findable { FindsReached (F.post accepts.now) controls.now capacity hash result.place }
 {
     let tag = tag_of(hash);
     let mut strides = Strides::new(hash, capacity);

@@ -1,8 +1,9 @@
 //! The positions at which the strides of a hash begin.
-ghost use Rattle.std.specs.Prelude.{◌≡◌, ◌+◌, ◌*◌, ◌%◌, ◌^◌, ◌<◌, ◌≤◌, [], ◌∷◌, MatchOption};
+ghost use Rattle.std.specs.Prelude.{◌≡◌, ◌+◌, ◌*◌, ◌%◌, ◌^◌, ◌<◌, ◌≤◌};
 ghost use Rattle.std.specs.Iterator.{YieldsFirst, item_count};
 ghost use Rattle.archive_shape_canonical.specs.Strides.{strides};
 ghost use Rattle.archive_hash_probing.specs.Stops.{strides_left, IsStop};
+ghost use Rattle.archive_hash_probing.specs.Calls.{PassesStride};
 
 use std::iter::FusedIterator;
 use std::marker::Model;
@@ -43,11 +44,7 @@ fn pass_stop(stop: Stop) -> Stop
 fn pass_stride(stop: &mut Stop, end: usize) -> Option<usize>
     requires { IsStop stop.old.count stop.old.passed stop.old.position }
     ensures stop { IsStop stop.new.count stop.new.passed stop.new.position }
-    ensures gives { MatchOption result
-        ((strides_left end stop.old.count stop.old.passed stop.old.position ≡ [])
-        × (strides_left end stop.new.count stop.new.passed stop.new.position ≡ []))
-        (λ p. strides_left end stop.old.count stop.old.passed stop.old.position
-        ≡ p ∷ strides_left end stop.new.count stop.new.passed stop.new.position) }
+    ensures gives { PassesStride end stop.old result stop.new }
 {
     while stop.passed < stop.count {
         let position = stop.position;

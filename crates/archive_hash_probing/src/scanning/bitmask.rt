@@ -1,8 +1,9 @@
 //! Marks of lanes, as the bits of a mask.
-ghost use Rattle.std.specs.Prelude.{◌≡◌, ◌↔◌, ◌^◌, ◌<◌, ◌≤◌, Bool, List, [], length, position, IsTrue};
+ghost use Rattle.std.specs.Prelude.{◌≡◌, ◌↔◌, ◌^◌, ◌<◌, Bool, List, [], IsTrue};
 ghost use Rattle.std.specs.Iterator.{YieldsFirst, item_count};
 ghost use Rattle.std.specs.Simd.Lanes.{mask_l};
 ghost use Rattle.archive_hash_probing.specs.Marks.{without_first, lanes_marked};
+ghost use Rattle.archive_hash_probing.specs.Calls.{FindsLowest};
 
 use std::iter::FusedIterator;
 use std::num::NonZeroU64;
@@ -34,8 +35,7 @@ impl Bitmask {
 
     /// Returns the lowest marked lane, or `None` if no lane is marked.
     pub fn lowest_set_bit(self) -> Option<usize>
-        ensures { (marks : List Bool) → length marks ≤ 64 → self.bits ≡ mask_l marks
-            → result ≡ position (λ mark. mark) marks }
+        ensures { FindsLowest self.bits result }
     {
         let bits = NonZeroWord::new(self.bits)?;
         Some(bits.trailing_zeros() as usize)

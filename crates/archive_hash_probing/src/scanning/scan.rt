@@ -1,9 +1,10 @@
 //! Scans of one, eight and sixteen controls at a time.
-ghost use Rattle.std.specs.Prelude.{◌≡◌, ℕ, ◌+◌, ◌*◌, ◌/◌, ◌^◌, ◌<◌, ◌≤◌, Bool, List, [], ◌∷◌, length, map, take, drop, refl};
+ghost use Rattle.std.specs.Prelude.{◌≡◌, ℕ, ◌+◌, ◌*◌, ◌/◌, ◌^◌, ◌<◌, ◌≤◌, List, [], ◌∷◌, length, map, take, drop, refl};
 ghost use Rattle.std.specs.Int.{w64, to_le_bytes};
 ghost use Rattle.std.specs.Simd.Lanes.{mask_l};
 ghost use Rattle.archive_shape_canonical.specs.Reach.{is_empty};
-ghost use Rattle.archive_hash_probing.specs.Scanning.{is_full, IsMatch};
+ghost use Rattle.archive_hash_probing.specs.Scanning.{is_full};
+ghost use Rattle.archive_hash_probing.specs.Calls.{MarksTag};
 
 use crate::scanning::bitmask::{Bitmask, Word};
 use crate::scanning::word::{gathered, marked, repeated, word_at};
@@ -38,7 +39,7 @@ pub trait Scan: Copy {
     /// one.
     fn match_byte(self, tag: u8) -> Bitmask
         requires { tag < 128 }
-        ensures { (marks : List Bool) × (result.bits ≡ mask_l marks) × IsMatch tag (lanes self) marks };
+        ensures { MarksTag tag (lanes self) result.bits };
 
     /// Marks every empty place.
     fn match_empty(self) -> Bitmask

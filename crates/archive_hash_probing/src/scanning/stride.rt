@@ -1,8 +1,8 @@
 //! Marks of a whole stride, which is sixteen controls at every width of a scan.
-ghost use Rattle.std.specs.Prelude.{◌≡◌, ℕ, ◌+◌, ◌<◌, ◌≤◌, Bool, List, length, map};
+ghost use Rattle.std.specs.Prelude.{◌≡◌, ℕ, ◌+◌, ◌<◌, ◌≤◌, length, map};
 ghost use Rattle.std.specs.Simd.Lanes.{mask_l};
 ghost use Rattle.archive_shape_canonical.specs.Reach.{is_empty, shown};
-ghost use Rattle.archive_hash_probing.specs.Scanning.{IsMatch};
+ghost use Rattle.archive_hash_probing.specs.Calls.{MarksTag};
 
 use crate::scanning::bitmask::Bitmask;
 use crate::scanning::scan::{MAX_GROUP_WIDTH, Scan};
@@ -12,7 +12,7 @@ use crate::scanning::scan::{MAX_GROUP_WIDTH, Scan};
 pub fn stride_matches<S: Scan>(controls: &[u8], position: usize, tag: u8) -> Bitmask
     requires tag { tag < 128 }
     requires within { position + 16 ≤ length controls.now }
-    ensures { (marks : List Bool) × (result.bits ≡ mask_l marks) × IsMatch tag (shown controls.now position) marks }
+    ensures { MarksTag tag (shown controls.now position) result.bits }
 {
     let mut bits = 0;
     for i in 0..MAX_GROUP_WIDTH / S::WIDTH {

@@ -1,7 +1,7 @@
 //! Eight controls as one word, the first as its lowest byte.
-ghost use Rattle.std.specs.Prelude.{◌≡◌, ℕ, ◌+◌, ◌<◌, ◌≤◌, Bool, List, length, map, take, drop, replicate, cond};
-ghost use Rattle.std.specs.Simd.Lanes.{mask_l, number_l};
-ghost use Rattle.archive_hash_probing.specs.Words.{marks_from, AreBytes};
+ghost use Rattle.std.specs.Prelude.{◌≡◌, ◌+◌, ◌<◌, ◌≤◌, length, take, drop, replicate};
+ghost use Rattle.std.specs.Simd.Lanes.{number_l};
+ghost use Rattle.archive_hash_probing.specs.Calls.{MarksBytes, GathersMarks};
 
 use crate::scanning::bitmask::Word;
 
@@ -31,16 +31,14 @@ pub(crate) fn repeated(byte: u8) -> Word
 
 /// Returns the high bit of each byte that is 0, and of each byte of 1 directly above a marked one.
 pub(crate) fn marked(word: Word) -> Word
-    ensures { (xs : List ℕ) → length xs ≡ 8 → AreBytes xs → word ≡ number_l 256 xs
-        → result ≡ number_l 256 (map (λ m. cond m 128 0) (marks_from xs 0)) }
+    ensures { MarksBytes word result }
 {
     word.wrapping_sub(0x0101_0101_0101_0101) & !word & 0x8080_8080_8080_8080
 }
 
 /// Returns the high bits of the bytes as adjacent bits, that of byte i as bit i.
 pub(crate) fn gathered(word: Word) -> Word
-    ensures { (marks : List Bool) → length marks ≡ 8 → word ≡ number_l 256 (map (λ m. cond m 128 0) marks)
-        → result ≡ mask_l marks }
+    ensures { GathersMarks word result }
 {
     (word >> 7).wrapping_mul(0x0102_0408_1020_4080) >> 56
 }

@@ -1,7 +1,7 @@
 //! Look-ups in archived index maps by a comparison that the caller passes.
 ghost use Rattle.std.specs.Prelude.{ℕ, IfSome};
 ghost use Rattle.archive_forms_values.specs.Parts.{HasValue};
-ghost use Rattle.archive_hash.specs.HashWalking.Maps.{IsThere, HashesTo, query_calls, key_at};
+ghost use Rattle.archive_hash_maps.specs.Maps.{IsThere, HashesTo, query_calls, key_at};
 ghost use Rattle.archive_index.specs.Maps.{IndexMap, IsMap, HasMap};
 ghost use Rattle.archive_index.specs.Lookups.{LooksUpEntry, value_of, pair_of, full_of};
 

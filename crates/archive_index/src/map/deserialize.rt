@@ -1,7 +1,7 @@
 //! Reads archived index maps back as the lists of their pairs.
 ghost use Rattle.std.specs.Prelude.{◌+◌, IfOk};
-ghost use Rattle.archive_shape.specs.ShapeLayout.Shape.{size_of};
-ghost use Rattle.archive_shape.specs.ShapeLayout.Shape.Shape.{index_map};
+ghost use Rattle.archive_shape_layout.specs.Shape.{size_of};
+ghost use Rattle.archive_shape_layout.specs.Shape.Shape.{index_map};
 ghost use Rattle.archive_forms_values.specs.Tuples.{tuple2};
 ghost use Rattle.archive_forms_values.specs.Parts.{HasValue, both};
 ghost use Rattle.archive_forms.specs.Deserializing.{Deserializes, DeserializesBy};

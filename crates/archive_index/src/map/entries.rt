@@ -1,13 +1,13 @@
 //! The entries of an archived index map, which are adjacent, in the map's order.
 ghost use Rattle.std.specs.Prelude.{◌≡◌, ◌<◌, ◌≤◌, MatchOption, IfSome};
-ghost use Rattle.archive_shape.specs.ShapeLayout.Shape.Shape.{index_map};
-ghost use Rattle.archive_shape.specs.ShapeLayout.Value.{Value};
+ghost use Rattle.archive_shape_layout.specs.Shape.Shape.{index_map};
+ghost use Rattle.archive_shape_layout.specs.Value.{Value};
 ghost use Rattle.archive_shape.specs.Key.{HeldAt};
 ghost use Rattle.archive_forms_values.specs.Tuples.{tuple2};
 ghost use Rattle.archive_forms_values.specs.Parts.{HasElements, AreElements, both};
 ghost use Rattle.archive_index.specs.Maps.{IndexMap, IsMapAt, IsMap, HasMapAt, HasMap, count_of};
 ghost use Rattle.archive_index.specs.Lookups.{pair_of};
-ghost use Rattle.archive_hash.specs.HashWalking.Maps.{IsThere};
+ghost use Rattle.archive_hash_maps.specs.Maps.{IsThere};
 
 use crate::map::ArchivedIndexMap;
 use archive_forms_values::{Entry, SliceRef, target_of};

@@ -1,5 +1,5 @@
 //! Compares archived index maps by their entries in order.
-ghost use Rattle.archive_forms_writing.specs.FormsLaws.Orders.{no_fields_equality, more_fields_equality, tuple_equality, vector_equality};
+ghost use Rattle.archive_forms_laws.specs.Orders.{no_fields_equality, more_fields_equality, tuple_equality, vector_equality};
 ghost use Rattle.archive_forms_laws.proofs.Forms.{equivalences};
 
 use crate::map::ArchivedIndexMap;

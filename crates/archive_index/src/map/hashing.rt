@@ -1,5 +1,5 @@
 //! Hashes archived index maps: the number of entries first, and then each entry in order.
-ghost use Rattle.archive_forms_writing.specs.FormsLaws.Orders.{no_fields_hashed, more_fields_hashed, tuple_hashed, vector_hashed};
+ghost use Rattle.archive_forms_laws.specs.Orders.{no_fields_hashed, more_fields_hashed, tuple_hashed, vector_hashed};
 ghost use Rattle.archive_forms_laws.proofs.Forms.{alike};
 
 use crate::map::ArchivedIndexMap;

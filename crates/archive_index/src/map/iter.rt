@@ -3,7 +3,7 @@ ghost use Rattle.std.specs.Prelude.{◌≡◌, ◌+◌, ◌*◌, ◌^◌, ◌<�
 ghost use Rattle.std.specs.Iterator.{YieldsFirst, UpTo, item_count};
 ghost use Rattle.std.specs.Iterator.SizeHint.{IsExactHint, IsWithinCount};
 ghost use Rattle.archive_forms_values.specs.Parts.{HasValue};
-ghost use Rattle.archive_hash.specs.HashWalking.Maps.{IsThere, key_at, value_at, entry_at, pair_at};
+ghost use Rattle.archive_hash_maps.specs.Maps.{IsThere, key_at, value_at, entry_at, pair_at};
 ghost use Rattle.archive_index.specs.Maps.{IndexMap, IsMap, HasMap, entry_positions};
 
 use crate::map::ArchivedIndexMap;
@@ -31,7 +31,7 @@ pub struct Iter<'a, K, V> {
 impl<'a, K, V> Model for Iter<'a, K, V> {
     ghost use Rattle.std.specs.Prelude.{ℕ, ◌+◌, ◌*◌, ◌^◌, ◌<◌, List, map, All};
     ghost use Rattle.archive_shape.specs.declared.references.refs.Ref.{Ref};
-    ghost use Rattle.archive_hash.specs.HashWalking.Maps.{pair_at};
+    ghost use Rattle.archive_hash_maps.specs.Maps.{pair_at};
     ghost use Rattle.archive_index.specs.Maps.{adjacent};
 
     ghost Value = { List (Ref K × Ref V) };

@@ -2,7 +2,7 @@
 ghost use Rattle.std.specs.Prelude.{◌≡◌, ℕ, IfSome, Option};
 ghost use Rattle.std.specs.Option.{is_some};
 ghost use Rattle.archive_forms_values.specs.Parts.{HasValue};
-ghost use Rattle.archive_hash.specs.HashWalking.Maps.{IsThere, HashesTo, KeySays};
+ghost use Rattle.archive_hash_maps.specs.Maps.{IsThere, HashesTo, KeySays};
 ghost use Rattle.archive_index.specs.Maps.{IndexMap, IsMap, HasMap};
 ghost use Rattle.archive_index.specs.Lookups.{LooksUpEntry, value_of, pair_of, full_of};
 

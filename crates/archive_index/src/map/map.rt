@@ -1,11 +1,15 @@
 //! The type of archived index maps, its layout, its check and its length.
-ghost use Rattle.std.specs.Prelude.{◌≡◌, ◌++◌, ◌↔◌, ◌+◌, ⊤, IsTrue};
+ghost use Rattle.std.specs.Prelude.{◌≡◌, ◌++◌, ◌↔◌, ◌+◌, ◌≤◌, length, ⊤, IsTrue};
 ghost use Rattle.std.proofs.Common.{refl, lit<, lit≤};
-ghost use Rattle.archive_shape.specs.ShapeLayout.Shape.Shape.{index_map, table};
+ghost use Rattle.archive_shape_layout.specs.Shape.Shape.{index_map, table};
+ghost use Rattle.archive_shape_layout.specs.Content.{Names};
+ghost use Rattle.archive_shape_layout.specs.Content.Part.{at};
+ghost use Rattle.archive_shape.specs.Checks.{Checks, Moves};
+ghost use Rattle.archive_shape.specs.Kept.{IsWithin};
 ghost use Rattle.archive_shape_layout.proofs.Naming.{first_types, other_types};
 ghost use Rattle.archive_forms_values.specs.Parts.{HasValue, both};
 ghost use Rattle.archive_index.specs.Maps.{IndexMap, IsMap, HasMap, count_of};
-ghost use Rattle.archive_forms_writing.specs.FormsLaws.Sample.{number_shape};
+ghost use Rattle.archive_forms_laws.specs.Sample.{number_shape};
 
 use crate::check_index_map_each;
 use archive_forms_values::Entry;
@@ -63,9 +67,33 @@ impl<K: Portable, V: Portable, H> Portable for ArchivedIndexMap<K, V, H> {
 impl<C: ArchiveContext, K: CheckBytes<C>, V: CheckBytes<C>, H> CheckBytes<C>
     for ArchivedIndexMap<K, V, H> {
     fn check(alloc: Global, bytes: &[u8], pos: usize, context: &mut C) -> Result<(), Error> {
+        let this: Ref<'_, ArchivedIndexMap<K, V, H>> = Ref::new(bytes, pos);
+        ArchivedIndexMap::verify(this, alloc, context)
+    }
+}
+
+impl<K, V, H> ArchivedIndexMap<K, V, H> {
+    /// Checks what the own bytes of the map lead to, of which any are legal: the table of the entries' numbers, and the
+    /// entries. It is all of the map's check, with the errors of [`check_index_map_each`], where the step is the check of
+    /// an entry. If there are no entries, nothing is checked.
+    pub fn verify<C: ArchiveContext>(
+        this: Ref<'_, ArchivedIndexMap<K, V, H>>,
+        alloc: Global,
+        context: &mut C,
+    ) -> Result<(), Error>
+    where
+        K: CheckBytes<C>,
+        V: CheckBytes<C>,
+        requires fits { this.pos + 16 ≤ length this.bytes.now }
+        requires range { IsWithin (C.kept context.old) (length this.bytes.now) }
+        ensures moves { Moves (C.kept context.old) result (C.kept context.new) }
+        ensures exact { (names : Names) → K.knows names → V.knows names
+            → Checks names this.entry.bytes.now (at this.entry.pos (index_map K.shape V.shape)) (C.kept context.old) result (C.kept context.new) }
+    {
+        let bytes = this.bytes;
         check_index_map_each::<Entry<K, V>, C, _>(
             bytes,
-            pos,
+            this.pos,
             context,
             |c: &mut C, p: usize| Entry::<K, V>::check(alloc, bytes, p, c),
         )

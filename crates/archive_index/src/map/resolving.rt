@@ -1,17 +1,17 @@
 //! Writes the own bytes of an index map, once the positions of its controls and its entries are known.
 ghost use Rattle.std.specs.Prelude.{◌≡◌, ◌+◌, ◌^◌, ◌<◌, ◌≤◌, ◌++◌, ◌⊎◌, length, MatchResult};
 ghost use Rattle.archive_shape.specs.Bytes.{overwrite};
-ghost use Rattle.archive_shape.specs.ShapeLayout.Edit.{Spares};
-ghost use Rattle.archive_forms_writing.specs.FormsLaws.Links.{link_bytes, LinkFits, LinkRefused};
-ghost use Rattle.archive_hash.specs.HashMaps.Resolving.{own_bytes, IsWithinLimits, IsRefused};
-ghost use Rattle.archive_shape.specs.ShapeLayout.Shape.Shape.{table};
+ghost use Rattle.archive_shape_layout.specs.Edit.{Spares};
+ghost use Rattle.archive_forms_laws.specs.Links.{link_bytes, LinkFits, LinkRefused};
+ghost use Rattle.archive_hash_maps.specs.Resolving.{own_bytes, IsWithinLimits, IsRefused};
+ghost use Rattle.archive_shape_layout.specs.Shape.Shape.{table};
 
 use crate::map::ArchivedIndexMap;
 use archive_forms_values::emplace_link;
 use archive_hash::ArchivedHashTable;
-use archive_index_spelling::IndexMapResolver;
+use archive_hash_writing::index::IndexMapResolver;
 use archive_shape::{ArchivedU32, Place, Portable};
-use archive_shape_writing::Error;
+use archive_shape_layout::Error;
 
 impl<K: Portable, V: Portable, H> ArchivedIndexMap<K, V, H> {
     /// Writes the own bytes of the map of `len` entries: those of its table, as `ArchivedHashTable::resolve_from_len`

@@ -3,7 +3,7 @@ ghost use denote.Ref.{Bor};
 ghost use Rattle.std.specs.Prelude.{◌≡◌, ℕ, List, length, Option, Some, None, IfSome, MatchOption};
 ghost use Rattle.std.specs.Option.{option_map};
 ghost use Rattle.archive_forms_values.specs.Parts.{HasValue};
-ghost use Rattle.archive_hash.specs.HashWalking.Maps.{HashesTo, KeySays, query_calls, key_at};
+ghost use Rattle.archive_hash_maps.specs.Maps.{HashesTo, KeySays, query_calls, key_at};
 ghost use Rattle.archive_forms_values.specs.Loans.{IsLent};
 ghost use Rattle.archive_index.specs.Maps.{IndexMap, IsMapAt, HasMapAt, entry_position};
 ghost use Rattle.archive_index.specs.Lookups.{LooksUpEntry, value_position_of};

@@ -1,10 +1,10 @@
 //! Look-ups of the numbers of entries.
 ghost use Rattle.std.specs.Prelude.{◌≡◌, ℕ, ◌+◌, ◌*◌, ◌^◌, ◌<◌, ◌≤◌, length, IfSome};
-ghost use Rattle.archive_shape.specs.ShapeLayout.Bytes.{word_at};
-ghost use Rattle.archive_shape.specs.ShapeLayout.Shape.{size_of};
+ghost use Rattle.archive_shape_layout.specs.Bytes.{word_at};
+ghost use Rattle.archive_shape_layout.specs.Shape.{size_of};
 ghost use Rattle.archive_forms_values.specs.Tuples.{tuple2};
 ghost use Rattle.archive_forms_values.specs.Parts.{HasValue, both};
-ghost use Rattle.archive_hash.specs.HashWalking.Maps.{HashesTo, KeySays, query_calls, key_at, entry_at};
+ghost use Rattle.archive_hash_maps.specs.Maps.{HashesTo, KeySays, query_calls, key_at, entry_at};
 ghost use Rattle.archive_index.specs.Maps.{IndexMap, IsMapAt, HasMapAt, count_of, entry_position};
 ghost use Rattle.archive_index.specs.Lookups.{AnswersEntry, LooksUpEntry};
 

@@ -1,12 +1,12 @@
 //! Reads archived index sets back as the lists of their keys.
 ghost use Rattle.std.specs.Prelude.{◌+◌, IfOk, ⊤};
-ghost use Rattle.archive_shape.specs.ShapeLayout.Shape.{size_of};
+ghost use Rattle.archive_shape_layout.specs.Shape.{size_of};
 ghost use Rattle.archive_forms_values.specs.Tuples.{tuple2};
 ghost use Rattle.archive_forms_values.specs.Parts.{HasValue, both};
 ghost use Rattle.archive_forms.specs.Deserializing.{Deserializes, DeserializesBy};
 ghost use Rattle.archive_forms.specs.Reading.{reads_all, reads_in, reads_key};
 ghost use Rattle.archive_forms.specs.Steps.{StepTakes, StepReads};
-ghost use Rattle.archive_hash.specs.HashMaps.Sets.{set_knows};
+ghost use Rattle.archive_hash_maps.specs.Sets.{set_knows};
 ghost use Rattle.archive_index.specs.Sets.{HasSet, set_shape, unit_shape};
 
 use crate::map::entries::entries;

@@ -2,7 +2,7 @@
 ghost use Rattle.std.specs.Prelude.{◌≡◌, ℕ, ◌<◌, ◌≤◌, Option, IfSome, MatchOption};
 ghost use Rattle.std.specs.Option.{is_some};
 ghost use Rattle.archive_forms_values.specs.Parts.{HasValue};
-ghost use Rattle.archive_hash.specs.HashWalking.Maps.{HashesTo, KeySays, key_at};
+ghost use Rattle.archive_hash_maps.specs.Maps.{HashesTo, KeySays, key_at};
 ghost use Rattle.archive_index.specs.Maps.{IndexMap, count_of, entry_position};
 ghost use Rattle.archive_index.specs.Lookups.{LooksUpEntry};
 ghost use Rattle.archive_index.specs.Sets.{HasSet, IsSet, unit_shape};

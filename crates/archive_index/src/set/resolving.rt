@@ -1,15 +1,15 @@
 //! Writes the own bytes of an index set, once the positions of its controls and its keys are known.
 ghost use Rattle.std.specs.Prelude.{◌≡◌, ◌+◌, ◌^◌, ◌<◌, ◌≤◌, ◌++◌, ◌⊎◌, length, MatchResult};
 ghost use Rattle.archive_shape.specs.Bytes.{overwrite};
-ghost use Rattle.archive_shape.specs.ShapeLayout.Edit.{Spares};
-ghost use Rattle.archive_forms_writing.specs.FormsLaws.Links.{link_bytes, LinkFits, LinkRefused};
-ghost use Rattle.archive_hash.specs.HashMaps.Resolving.{own_bytes, IsWithinLimits, IsRefused};
+ghost use Rattle.archive_shape_layout.specs.Edit.{Spares};
+ghost use Rattle.archive_forms_laws.specs.Links.{link_bytes, LinkFits, LinkRefused};
+ghost use Rattle.archive_hash_maps.specs.Resolving.{own_bytes, IsWithinLimits, IsRefused};
 
 use crate::map::ArchivedIndexMap;
 use crate::set::ArchivedIndexSet;
-use archive_index_spelling::IndexMapResolver;
+use archive_hash_writing::index::IndexMapResolver;
 use archive_shape::{Place, Portable};
-use archive_shape_writing::Error;
+use archive_shape_layout::Error;
 
 /// The position of the controls of a set's table, and that of its first key, if the set has keys.
 #[derive(Clone, Copy, Debug, PartialEq, Eq)]

@@ -1,11 +1,15 @@
 //! The type of archived index sets, its layout, its check, its length and its keys.
-ghost use Rattle.std.specs.Prelude.{◌≡◌, ◌++◌, ◌↔◌, [], map, All, IsTrue};
+ghost use Rattle.std.specs.Prelude.{◌≡◌, ◌++◌, ◌↔◌, ◌+◌, ◌≤◌, [], length, map, All, IsTrue};
 ghost use Rattle.std.proofs.Common.{refl, lit<, lit≤};
+ghost use Rattle.archive_shape_layout.specs.Content.{Names};
+ghost use Rattle.archive_shape_layout.specs.Content.Part.{at};
+ghost use Rattle.archive_shape.specs.Checks.{Checks, Moves};
+ghost use Rattle.archive_shape.specs.Kept.{IsWithin};
 ghost use Rattle.archive_shape_layout.proofs.Naming.{first_types};
 ghost use Rattle.archive_forms_values.specs.Parts.{HasValue};
-ghost use Rattle.archive_hash.specs.HashWalking.Places.{item_at};
-ghost use Rattle.archive_hash.specs.HashWalking.Maps.{key_at};
-ghost use Rattle.archive_hash.specs.HashMaps.Sets.{set_knows};
+ghost use Rattle.archive_hash_maps.specs.Places.{item_at};
+ghost use Rattle.archive_hash_maps.specs.Maps.{key_at};
+ghost use Rattle.archive_hash_maps.specs.Sets.{set_knows};
 ghost use Rattle.archive_index.specs.Maps.{IndexMap, count_of};
 ghost use Rattle.archive_index.specs.Sets.{HasSet, IsSet, key_positions, set_shape};
 
@@ -53,7 +57,28 @@ impl<K: Portable, H> Portable for ArchivedIndexSet<K, H> {
 
 impl<C: ArchiveContext, K: CheckBytes<C>, H> CheckBytes<C> for ArchivedIndexSet<K, H> {
     fn check(alloc: Global, bytes: &[u8], pos: usize, context: &mut C) -> Result<(), Error> {
-        ArchivedIndexMap::<K, (), H>::check(alloc, bytes, pos, context)
+        let this: Ref<'_, ArchivedIndexSet<K, H>> = Ref::new(bytes, pos);
+        ArchivedIndexSet::verify(this, alloc, context)
+    }
+}
+
+impl<K, H> ArchivedIndexSet<K, H> {
+    /// Checks what the own bytes of the set lead to, as [`ArchivedIndexMap::verify`] does for the map of its keys to
+    /// `()`.
+    pub fn verify<C: ArchiveContext>(
+        this: Ref<'_, ArchivedIndexSet<K, H>>,
+        alloc: Global,
+        context: &mut C,
+    ) -> Result<(), Error>
+    where
+        K: CheckBytes<C>,
+        requires fits { this.pos + 16 ≤ length this.bytes.now }
+        requires range { IsWithin (C.kept context.old) (length this.bytes.now) }
+        ensures moves { Moves (C.kept context.old) result (C.kept context.new) }
+        ensures exact { (names : Names) → K.knows names
+            → Checks names this.entry.bytes.now (at this.entry.pos (set_shape K.shape)) (C.kept context.old) result (C.kept context.new) }
+    {
+        ArchivedIndexMap::verify(as_map(this), alloc, context)
     }
 }
 

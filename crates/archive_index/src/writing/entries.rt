@@ -1,19 +1,18 @@
 //! Writes pairs of a key and a value as an index map, where the values need not be archived by `Archive`.
 ghost use Rattle.std.specs.Prelude.{◌≡◌, ◌-◌, ◌^◌, ◌<◌, All, map};
-ghost use Rattle.archive_forms_writing.specs.FormsLaws.Fields.{tuple2_spelling};
-ghost use Rattle.archive_forms_writing.specs.FormsLaws.Serializing.{HasState, Serializes, SerializesBy};
+ghost use Rattle.archive_forms_laws.specs.Fields.{tuple2_spelling};
+ghost use Rattle.archive_forms_laws.specs.Serializing.{HasState, Serializes, SerializesBy};
 ghost use Rattle.archive_forms_writing.specs.Steps.{StepTakes, StepWrites};
 ghost use Rattle.archive_hash_probing.specs.Inputs.{input_hash};
-ghost use Rattle.archive_index_spelling.specs.Resolvers.{pairs_spelling};
+ghost use Rattle.archive_hash_writing.specs.IndexResolvers.{pairs_spelling};
 
 use crate::writing::hashed::serialize_hashed_map;
 use crate::writing::pair_with::PairWith;
-use archive_forms_borrowed::{EntryParts, EntryStep};
 use archive_forms_values::Entry;
-use archive_forms_writing::{Archive, ArchiveWith};
+use archive_forms_writing::{Archive, ArchiveWith, EntryParts, EntryStep};
 use archive_hash::{LOAD_FACTOR, hash_items};
 use archive_hash_probing::{Group, hash_key};
-use archive_index_spelling::IndexMapResolver;
+use archive_hash_writing::index::IndexMapResolver;
 use archive_shape::{Allocator, Error, Writer};
 use std::hash::Hash;
 use std::marker::PhantomData;

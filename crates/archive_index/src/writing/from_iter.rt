@@ -2,20 +2,20 @@
 ghost use Rattle.std.specs.Prelude.{◌≡◌, ◌-◌, ◌^◌, ◌<◌};
 ghost use Rattle.std.specs.Iterator.{Drains, IsFinite, IsFiniteIterable};
 ghost use Rattle.std.specs.Map.Iter.{deref_pair};
-ghost use Rattle.archive_forms_borrowed.specs.Entries.{entry_spelling};
-ghost use Rattle.archive_forms_writing.specs.FormsLaws.Serializing.{HasState, SerializesBy};
-ghost use Rattle.archive_forms_writing.specs.FormsLaws.Taking.{GivesAs};
+ghost use Rattle.archive_forms_writing.specs.Entries.{entry_spelling};
+ghost use Rattle.archive_forms_laws.specs.Serializing.{HasState, SerializesBy};
+ghost use Rattle.archive_forms_laws.specs.Taking.{GivesAs};
 ghost use Rattle.archive_hash_probing.specs.Inputs.{input_hash};
 ghost use Rattle.archive_index.specs.Written.{WritesPairs};
 
+use crate::map::ArchivedIndexMap;
 use crate::writing::iterators::serialize_from_iter_scan_each;
-use archive_forms_borrowed::{EntryAdapter, EntryResolver};
 use archive_forms_values::Entry;
-use archive_forms_writing::{Serialize, serialize_element};
+use archive_forms_writing::{Archive, EntryAdapter, EntryResolver, Serialize, serialize_element};
 use archive_hash::Entries;
 use archive_hash_probing::{Group, hash_key};
-use archive_index_spelling::IndexMapResolver;
-use archive_shape::{Allocator, Error, Writer};
+use archive_hash_writing::index::IndexMapResolver;
+use archive_shape::{Allocator, Error, Portable, Writer};
 use std::hash::Hash;
 use std::marker::PhantomData;
 
@@ -67,33 +67,35 @@ fn serialize_given_pairs<
     )
 }
 
-/// Writes the index map of the entries that an iterator returns, in this order, by the hashes of their keys. `len` is the
-/// number of entries that the caller claims. At most `load_factor.0` of `load_factor.1` places are full. Memory is
-/// allocated for the entries that the iterator returns, and none for those that are only claimed. Keys are not compared:
-/// of equal keys each is written, and the first is found.
-///
-/// # Errors
-/// The errors of `serialize_from_iter_scan_each`, and each error of writing a key or a value.
-pub fn serialize_map_from_iter<
-    'a,
-    S: Writer + Allocator,
-    K: Serialize<S> + Hash + 'a,
-    V: Serialize<S> + 'a,
-    I: IntoIterator<Item = (&'a K, &'a V)>,
->(
-    len: usize,
-    entries: I,
-    load_factor: (usize, usize),
-    serializer: &mut S,
-) -> Result<IndexMapResolver, Error>
-    requires room { S.failures serializer.old < 2 ^ 64 - 1 }
-    requires state { HasState S.pos S.known serializer.old }
-    requires ends { IsFiniteIterable I.into_iter_gives I.IntoIter.can_next
-        I.IntoIter.remaining entries }
-    ensures { WritesPairs (λ es. (it : I.IntoIter) × I.into_iter_gives entries it
-        × Drains (GivesAs deref_pair I.IntoIter.next_gives) it es)
-        (λ k. input_hash (K.hash_input k)) load_factor K.Archived.shape V.Archived.shape K.spelling V.spelling S.Writer len serializer.old serializer.new result }
-{
-    let pairs = entries.into_iter();
-    serialize_given_pairs::<S, K, V, I::IntoIter>(len, pairs, load_factor, serializer)
+impl<K: Portable, V: Portable, H> ArchivedIndexMap<K, V, H> {
+    /// Writes the index map of the entries that an iterator returns, in this order, by the hashes of their keys. `len`
+    /// is the number of entries that the caller claims. At most `load_factor.0` of `load_factor.1` places are full.
+    /// Memory is allocated for the entries that the iterator returns, and none for those that are only claimed. Keys are
+    /// not compared: of equal keys each is written, and the first is found.
+    ///
+    /// # Errors
+    /// The errors of `serialize_from_iter_scan_each`, and each error of writing a key or a value.
+    pub fn serialize_from_iter<
+        'a,
+        S: Writer + Allocator,
+        A: Archive<Archived = K> + Serialize<S> + Hash + 'a,
+        B: Archive<Archived = V> + Serialize<S> + 'a,
+        I: IntoIterator<Item = (&'a A, &'a B)>,
+    >(
+        len: usize,
+        entries: I,
+        load_factor: (usize, usize),
+        serializer: &mut S,
+    ) -> Result<IndexMapResolver, Error>
+        requires room { S.failures serializer.old < 2 ^ 64 - 1 }
+        requires state { HasState S.pos S.known serializer.old }
+        requires ends { IsFiniteIterable I.into_iter_gives I.IntoIter.can_next
+            I.IntoIter.remaining entries }
+        ensures { WritesPairs (λ es. (it : I.IntoIter) × I.into_iter_gives entries it
+            × Drains (GivesAs deref_pair I.IntoIter.next_gives) it es)
+            (λ k. input_hash (A.hash_input k)) load_factor K.shape V.shape A.spelling B.spelling S.Writer len serializer.old serializer.new result }
+    {
+        let pairs = entries.into_iter();
+        serialize_given_pairs::<S, A, B, I::IntoIter>(len, pairs, load_factor, serializer)
+    }
 }

@@ -1,16 +1,16 @@
 //! Writes index maps of entries and their hashes.
 ghost use Rattle.std.specs.Prelude.{◌≡◌, ◌-◌, ◌^◌, ◌<◌, length};
-ghost use Rattle.archive_forms_writing.specs.FormsLaws.Sample.{number_spelling};
-ghost use Rattle.archive_forms_writing.specs.FormsLaws.Serializing.{HasState, Serializes, SerializesBy};
+ghost use Rattle.archive_forms_laws.specs.Sample.{number_spelling};
+ghost use Rattle.archive_forms_laws.specs.Serializing.{HasState, Serializes, SerializesBy};
 ghost use Rattle.archive_forms_writing.specs.Steps.{StepTakes, StepWrites};
 ghost use Rattle.archive_hash_probing.specs.Loads.{IsLoadFactor};
-ghost use Rattle.archive_index_spelling.specs.Resolvers.{written_map};
+ghost use Rattle.archive_hash_writing.specs.IndexResolvers.{written_map};
 
 use crate::writing::numbers::numbers_below;
 use archive_forms_writing::{ArchiveWith, ByArchive, serialize_element, serialize_slice_with_each};
 use archive_hash::{HashTableResolver, serialize_hashed};
 use archive_hash_probing::{Scan, capacity_for_len};
-use archive_index_spelling::IndexMapResolver;
+use archive_hash_writing::index::IndexMapResolver;
 use archive_shape::{Allocator, ArchivedU32, Error, Writer};
 use std::marker::PhantomData;
 

@@ -2,16 +2,15 @@
 ghost use Rattle.std.specs.Prelude.{◌-◌, ◌^◌, ◌<◌, List};
 ghost use Rattle.std.specs.Fn.{FnReturnsAt};
 ghost use Rattle.std.specs.Iterator.{Drains, IsFiniteIterable};
-ghost use Rattle.archive_forms_writing.specs.FormsLaws.Serializing.{HasState};
+ghost use Rattle.archive_forms_laws.specs.Serializing.{HasState};
 ghost use Rattle.archive_forms_writing.specs.Steps.{IsElement, StepTakes, StepWrites};
 ghost use Rattle.archive_index.specs.Written.{WritesMap};
 
 use crate::writing::hashed::serialize_hashed_map;
-use archive_forms_borrowed::collect_items;
-use archive_forms_writing::{Archive, ByArchive};
+use archive_forms_writing::{Archive, ByArchive, collect_items};
 use archive_hash::hash_items;
 use archive_hash_probing::Scan;
-use archive_index_spelling::IndexMapResolver;
+use archive_hash_writing::index::IndexMapResolver;
 use archive_shape::{Allocator, Error, Writer};
 use std::marker::PhantomData;
 

@@ -1,23 +1,23 @@
 //! Writes index sets of the keys that an iterator returns.
 ghost use Rattle.std.specs.Prelude.{◌≡◌, ◌-◌, ◌^◌, ◌<◌};
 ghost use Rattle.std.specs.Iterator.{Drains, IsFinite, IsFiniteIterable};
-ghost use Rattle.archive_forms_borrowed.specs.Entries.{entry_spelling};
-ghost use Rattle.archive_forms_writing.specs.FormsLaws.Fields.{unit_spelling};
-ghost use Rattle.archive_forms_writing.specs.FormsLaws.Serializing.{HasState, SerializesBy};
-ghost use Rattle.archive_forms_writing.specs.FormsLaws.Taking.{GivesAs};
+ghost use Rattle.archive_forms_writing.specs.Entries.{entry_spelling};
+ghost use Rattle.archive_forms_laws.specs.Fields.{unit_spelling};
+ghost use Rattle.archive_forms_laws.specs.Serializing.{HasState, SerializesBy};
+ghost use Rattle.archive_forms_laws.specs.Taking.{GivesAs};
 ghost use Rattle.archive_hash.specs.Given.{key_entry};
 ghost use Rattle.archive_hash_probing.specs.Inputs.{input_hash};
 ghost use Rattle.archive_index.specs.Sets.{unit_shape};
 ghost use Rattle.archive_index.specs.Written.{WritesPairs};
 
+use crate::set::ArchivedIndexSet;
 use crate::writing::iterators::serialize_from_iter_scan_each;
-use archive_forms_borrowed::{EntryAdapter, EntryResolver};
 use archive_forms_values::Entry;
-use archive_forms_writing::{Serialize, serialize_element};
+use archive_forms_writing::{Archive, EntryAdapter, EntryResolver, Serialize, serialize_element};
 use archive_hash::KeysBesideUnits;
 use archive_hash_probing::{Group, hash_key};
-use archive_index_spelling::IndexMapResolver;
-use archive_shape::{Allocator, Error, Writer};
+use archive_hash_writing::index::IndexMapResolver;
+use archive_shape::{Allocator, Error, Portable, Writer};
 use std::hash::Hash;
 use std::marker::PhantomData;
 
@@ -75,29 +75,31 @@ fn serialize_given_keys<
     )
 }
 
-/// Writes the index set of the keys that an iterator returns, as `serialize_map_from_iter` writes entries whose values are
-/// `()`. The resolver is that of the map of the keys to `()`.
-///
-/// # Errors
-/// The errors of `serialize_map_from_iter`.
-pub fn serialize_set_from_iter<
-    'a,
-    S: Writer + Allocator,
-    K: Serialize<S> + Hash + 'a,
-    I: IntoIterator<Item = &'a K>,
->(
-    len: usize,
-    keys: I,
-    load_factor: (usize, usize),
-    serializer: &mut S,
-) -> Result<IndexMapResolver, Error>
-    requires room { S.failures serializer.old < 2 ^ 64 - 1 }
-    requires state { HasState S.pos S.known serializer.old }
-    requires ends { IsFiniteIterable I.into_iter_gives I.IntoIter.can_next I.IntoIter.remaining keys }
-    ensures { WritesPairs (λ es. (it : I.IntoIter) × I.into_iter_gives keys it
-        × Drains (GivesAs key_entry I.IntoIter.next_gives) it es)
-        (λ k. input_hash (K.hash_input k)) load_factor K.Archived.shape unit_shape K.spelling unit_spelling S.Writer len serializer.old serializer.new result }
-{
-    let keys = keys.into_iter();
-    serialize_given_keys::<S, K, I::IntoIter>(len, keys, load_factor, serializer)
+impl<K: Portable, H> ArchivedIndexSet<K, H> {
+    /// Writes the index set of the keys that an iterator returns, as [`ArchivedIndexMap::serialize_from_iter`] writes
+    /// entries whose values are `()`. The resolver is that of the map of the keys to `()`.
+    ///
+    /// # Errors
+    /// The errors of `ArchivedIndexMap::serialize_from_iter`.
+    pub fn serialize_from_iter<
+        'a,
+        S: Writer + Allocator,
+        A: Archive<Archived = K> + Serialize<S> + Hash + 'a,
+        I: IntoIterator<Item = &'a A>,
+    >(
+        len: usize,
+        keys: I,
+        load_factor: (usize, usize),
+        serializer: &mut S,
+    ) -> Result<IndexMapResolver, Error>
+        requires room { S.failures serializer.old < 2 ^ 64 - 1 }
+        requires state { HasState S.pos S.known serializer.old }
+        requires ends { IsFiniteIterable I.into_iter_gives I.IntoIter.can_next I.IntoIter.remaining keys }
+        ensures { WritesPairs (λ es. (it : I.IntoIter) × I.into_iter_gives keys it
+            × Drains (GivesAs key_entry I.IntoIter.next_gives) it es)
+            (λ k. input_hash (A.hash_input k)) load_factor K.shape unit_shape A.spelling unit_spelling S.Writer len serializer.old serializer.new result }
+    {
+        let keys = keys.into_iter();
+        serialize_given_keys::<S, A, I::IntoIter>(len, keys, load_factor, serializer)
+    }
 }

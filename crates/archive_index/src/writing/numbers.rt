@@ -1,7 +1,7 @@
 //! The numbers of entries.
 ghost use Rattle.std.specs.Prelude.{◌≡◌, ◌^◌, ◌≤◌, MatchResult};
 ghost use Rattle.std.specs.List.{range_with_len};
-ghost use Rattle.archive_shape_writing.specs.declared.error.Error.TheVariants.{OutOfMemory};
+ghost use Rattle.archive_shape_layout.specs.declared.error.Error.TheVariants.{OutOfMemory};
 
 use archive_shape::Error;
 use std::alloc::Global;

@@ -1,13 +1,12 @@
 //! What archives pairs of a key and a value, whose values are archived by something else than `Archive`.
 ghost use Rattle.archive_forms_values.specs.Tuples.{tuple2};
-ghost use Rattle.archive_forms_writing.specs.FormsLaws.Fields.{tuple2_spelling};
-ghost use Rattle.archive_forms_writing.specs.FormsLaws.Serializing.{CanResolve, Resolves};
+ghost use Rattle.archive_forms_laws.specs.Fields.{tuple2_spelling};
+ghost use Rattle.archive_forms_laws.specs.Serializing.{CanResolve, Resolves};
 ghost use Rattle.archive_forms_laws.proofs.Fields.{tuple2_spells};
 ghost use Rattle.archive_forms_laws.proofs.Views.{known_spells};
 
-use archive_forms_borrowed::{EntryAdapter, EntryResolver};
 use archive_forms_values::Entry;
-use archive_forms_writing::{Archive, ArchiveWith};
+use archive_forms_writing::{Archive, ArchiveWith, EntryAdapter, EntryResolver};
 use archive_hash::EntryWith;
 use archive_shape::{Error, Place};
 

@@ -2,10 +2,8 @@
 ghost use Rattle.std.specs.Prelude.{ℕ, ◌+◌, ◌<◌, ◌≤◌, length};
 ghost use Rattle.archive_shape_layout.specs.Shape.{size_of};
 ghost use Rattle.archive_shape_layout.specs.Shape.Shape.{array};
-ghost use Rattle.archive_shape_layout.specs.Content.{Names};
-ghost use Rattle.archive_shape_layout.specs.Content.Part.{at};
 ghost use Rattle.archive_shape.specs.Kept.{IsWithin};
-ghost use Rattle.archive_shape.specs.Checks.{Checks, Moves};
+ghost use Rattle.archive_shape.specs.Checks.{ChecksAt, Moves};
 ghost use Rattle.archive_shape.specs.Steps.{StepTakes, StepChecks};
 
 use crate::checking::elements::check_slice_each;
@@ -25,8 +23,7 @@ pub fn check_array_each<
     requires takes { 0 < N → StepTakes F.Fn C.kept bytes.now T.shape step (C.kept context.old) 0 }
     requires checks { StepChecks F.Fn C.kept bytes.now T.shape step T.knows }
     ensures moves { Moves (C.kept context.old) result (C.kept context.new) }
-    ensures exact { (names : Names) → T.knows names
-        → Checks names bytes.now (at pos (array N T.shape)) (C.kept context.old) result (C.kept context.new) }
+    ensures exact { ChecksAt C.kept T.knows bytes.now pos (array N T.shape) context.old result context.new }
 {
     check_slice_each::<T, C, F>(bytes, pos, N, context, step)
 }

@@ -4,7 +4,7 @@ ghost use Rattle.archive_shape_layout.specs.Shape.{size_of};
 ghost use Rattle.archive_shape_layout.specs.Content.{Names};
 ghost use Rattle.archive_shape_layout.specs.Content.Part.{at};
 ghost use Rattle.archive_shape.specs.Kept.{Kept, IsWithin};
-ghost use Rattle.archive_shape.specs.Checks.{Checks, Moves};
+ghost use Rattle.archive_shape.specs.Checks.{ChecksAt, Moves};
 
 mod leaves;
 mod without_bytes;
@@ -21,5 +21,5 @@ pub trait CheckBytes<C: ArchiveContext>: Portable {
         requires fits { pos + size_of Self.shape ≤ length bytes.now }
         requires range { IsWithin (C.kept context.old) (length bytes.now) }
         ensures moves { Moves (C.kept context.old) result (C.kept context.new) }
-        ensures exact { (names : Names) → Self.knows names → Checks names bytes.now (at pos Self.shape) (C.kept context.old) result (C.kept context.new) };
+        ensures exact { ChecksAt C.kept Self.knows bytes.now pos Self.shape context.old result context.new };
 }

@@ -1,12 +1,12 @@
 //! The contexts that checks are made in.
-ghost use Rattle.std.specs.Prelude.{◌≡◌, ◌≢◌, ℕ, ◌+◌, ◌%◌, ◌<◌, ◌≤◌, ◌++◌, ◌∷◌, [], List, length, Result, Ok, Err, MatchResult, IfErr, Some, None};
+ghost use Rattle.std.specs.Prelude.{◌≡◌, ◌≢◌, ℕ, ◌+◌, ◌%◌, ◌<◌, ◌≤◌, [], Ok, Err, IfErr};
 ghost use Rattle.archive_shape_layout.specs.RuntimeShape.{pointee_of};
 ghost use Rattle.archive_shape.specs.Range.{InRange};
 ghost use Rattle.archive_shape.specs.Questions.{out_of_range};
-ghost use Rattle.archive_shape.specs.Kept.{Kept, range_of, pushed, popped, StartsShared, RefusesShared, FinishesShared};
+ghost use Rattle.archive_shape.specs.Calls.{PopsLast, Pushes, RefusesOther, StartsVisit};
+ghost use Rattle.archive_shape.specs.Kept.{Kept, range_of, FinishesShared};
 
-use archive_shape_layout::Pointee;
-use archive_shape_writing::Error;
+use archive_shape_layout::{Error, Pointee};
 
 /// An open push: the region `[pos, end)` before which the range ends, and `outer`, where the range ended before the
 /// push.
@@ -45,18 +45,14 @@ pub trait ArchiveContext {
     /// Narrows the range to the part before `[pos, end)`. Returns `ExceededMaximumSubtreeDepth` where no more pushes
     /// may nest.
     fn push_subtree_range(&mut self, pos: usize, end: usize) -> Result<PushedRange, Error>
-        ensures { MatchResult result
-            (λ r. (r ≡ record { pos = pos; end = end; outer = (kept self.old).end })
-            × (length (kept self.old).pushes < (kept self.old).most) × (kept self.new ≡ pushed (kept self.old) r))
-            (λ e. (e ≢ Error.OutOfMemory → ((kept self.old).most ≤ length (kept self.old).pushes) × (e ≡ Error.ExceededMaximumSubtreeDepth))
-            × (kept self.new ≡ kept self.old)) };
+        ensures { Pushes (kept self.old) pos end result (kept self.new) };
 
     /// Ends the last open push, which must be `range`, and starts the range again after its region. Returns
     /// `RangePoppedTooManyTimes` where no push is open, and `RangePoppedOutOfOrder` where another push is the last.
     fn pop_subtree_range(&mut self, range: PushedRange) -> Result<(), Error>
         ensures none { (kept self.old).pushes ≡ [] → result ≡ Err Error.RangePoppedTooManyTimes }
-        ensures other { (rest : List PushedRange) (last : PushedRange) → (kept self.old).pushes ≡ rest ++ last ∷ [] → last ≢ range → result ≡ Err Error.RangePoppedOutOfOrder }
-        ensures last { (rest : List PushedRange) → (kept self.old).pushes ≡ rest ++ range ∷ [] → (result ≡ Ok tt) × (kept self.new ≡ popped (kept self.old) range rest) }
+        ensures other { RefusesOther (kept self.old) range result }
+        ensures last { PopsLast (kept self.old) range result (kept self.new) }
         ensures refused { IfErr result (λ _. kept self.new ≡ kept self.old) };
 }
 
@@ -71,10 +67,7 @@ pub trait SharedContext: ArchiveContext {
         len: usize,
         pointee: Pointee,
     ) -> Result<ValidationState, Error>
-        ensures { MatchResult result
-            (StartsShared (Self.kept self.old) pos (pointee_of pointee) len (Self.kept self.new))
-            (λ e. (e ≢ Error.OutOfMemory → RefusesShared (Self.kept self.old) pos (pointee_of pointee) len e)
-            × (Self.kept self.new ≡ Self.kept self.old)) };
+        ensures { StartsVisit (Self.kept self.old) pos (pointee_of pointee) len result (Self.kept self.new) };
 
     /// Ends the check of a shared position. Allocates nothing. Returns `NotStarted` where the check has not begun, and
     /// `AlreadyFinished` where it has ended.

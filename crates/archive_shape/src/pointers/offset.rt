@@ -5,12 +5,12 @@ ghost use Rattle.std.proofs.Common.{lit<, lit≤};
 ghost use Rattle.std.proofs.Math.Facts.{sfits_widen};
 ghost use Rattle.archive_shape.specs.Offsets.{difference, signed_number, unsigned_number};
 ghost use Rattle.archive_shape_layout.proofs.Offsets.{unsigned_fits};
-ghost use Rattle.archive_shape_writing.specs.declared.error.Error.TheVariants.{IsizeOverflow};
+ghost use Rattle.archive_shape_layout.specs.declared.error.Error.TheVariants.{IsizeOverflow};
 
 use crate::types::{
     ArchivedI16, ArchivedI32, ArchivedI64, ArchivedLeaf, ArchivedU16, ArchivedU32, ArchivedU64,
 };
-use archive_shape_writing::Error;
+use archive_shape_layout::Error;
 
 /// Returns the offset from `from` to `to` in bytes, or `IsizeOverflow` where it does not fit.
 pub fn signed_offset(from: usize, to: usize) -> Result<isize, Error>

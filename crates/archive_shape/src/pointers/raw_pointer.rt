@@ -1,18 +1,17 @@
 //! Pointers that are stored as offsets from their own positions.
-ghost use Rattle.std.specs.Prelude.{◌≡◌, ◌+◌, ◌≤◌, ◌<◌, ◌^◌, ◌↔◌, pos, ◌+ℤ◌, length, IsTrue, IsOk, OnOk, MatchOption, MatchResult};
-ghost use Rattle.std.specs.Int.{w64, FitsUnsigned};
+ghost use Rattle.std.specs.Prelude.{◌≡◌, ◌+◌, ◌≤◌, ◌<◌, ◌^◌, ◌↔◌, pos, length, IsTrue, IsOk, MatchResult};
 ghost use Rattle.archive_shape_layout.specs.Bytes.{window};
 ghost use Rattle.archive_shape.specs.Bytes.{overwrite};
-ghost use Rattle.archive_shape.specs.Offsets.{difference, Leads};
-ghost use Rattle.archive_shape_writing.specs.declared.error.Error.TheVariants.{IsizeOverflow};
+ghost use Rattle.archive_shape.specs.Calls.{LeadsBack, LeadsFrom};
+ghost use Rattle.archive_shape.specs.Offsets.{difference};
+ghost use Rattle.archive_shape_layout.specs.declared.error.Error.TheVariants.{IsizeOverflow};
 
 use crate::pointers::{Offset, signed_offset};
 use crate::references::{Place, Ref};
 use crate::types::{
     ArchivedI16, ArchivedI32, ArchivedI64, ArchivedU16, ArchivedU32, ArchivedU64, Portable,
 };
-use archive_shape_layout::Shape;
-use archive_shape_writing::Error;
+use archive_shape_layout::{Error, Shape};
 use std::alloc::{AllocError, Global};
 use std::marker::PhantomData;
 
@@ -74,7 +73,7 @@ impl<O: Offset> RawRelPtr<O> {
         ensures contents { MatchResult result
             (λ _. O.fits (difference out.entry.pos to) × (out.exit.0.now ≡ overwrite out.entry.out.now out.entry.start (O.offset_bytes (difference out.entry.pos to))))
             (λ e. (e ≡ IsizeOverflow) × ((O.fits (difference out.entry.pos to) → ⊥) × (out.exit.0.now ≡ out.entry.out.now))) }
-        ensures leads { OnOk result (Leads out.entry.pos (O.offset_of (O.offset_bytes (difference out.entry.pos to))) to) }
+        ensures leads { LeadsBack (λ by. O.offset_of (O.offset_bytes by)) out.entry.pos to result }
     {
         let offset = signed_offset(out.pos, to)?;
         let native = O::from_isize(offset)?;
@@ -132,9 +131,7 @@ impl<O: Offset> RawRelPtr<O> {
     /// Returns the position that the pointer leads to, or `None` where it leads to no position.
     pub fn target(this: Ref<'_, Self>) -> Option<usize>
         requires { this.pos + O.SIZE ≤ length this.bytes.now }
-        ensures { MatchOption result
-            (FitsUnsigned w64 (pos this.entry.pos +ℤ O.offset_of (window this.entry.bytes.now this.entry.pos O.SIZE)) → ⊥)
-            (Leads this.entry.pos (O.offset_of (window this.entry.bytes.now this.entry.pos O.SIZE))) }
+        ensures { LeadsFrom this.entry.pos (O.offset_of (window this.entry.bytes.now this.entry.pos O.SIZE)) result }
     {
         offset_target(RawRelPtr::base(this), RawRelPtr::offset(this))
     }
@@ -145,7 +142,7 @@ impl<O: Offset> RawRelPtr<O> {
 /// can lead to no position, and the sum then wraps to 2^63 or more.
 fn offset_target(from: usize, offset: isize) -> Option<usize>
     requires { from < 2 ^ 63 }
-    ensures { MatchOption result (FitsUnsigned w64 (pos from +ℤ offset) → ⊥) (Leads from offset) }
+    ensures { LeadsFrom from offset result }
 {
     let to = from.wrapping_add_signed(offset);
     if offset < 0 && to.cast_signed() < 0 {

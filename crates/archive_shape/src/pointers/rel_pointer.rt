@@ -1,6 +1,5 @@
 //! Pointers that have metadata after the offset.
-ghost use Rattle.std.specs.Prelude.{◌≡◌, ℕ, ◌+◌, ◌≤◌, ◌↔◌, pos, ◌+ℤ◌, ◌++◌, max, length, IsTrue, IsOk, OnOk, MatchOption, MatchResult};
-ghost use Rattle.std.specs.Int.{w64, FitsUnsigned};
+ghost use Rattle.std.specs.Prelude.{◌≡◌, ℕ, ◌+◌, ◌≤◌, ◌↔◌, pos, ◌++◌, max, length, IsTrue, IsOk, MatchResult};
 ghost use Rattle.archive_shape_layout.specs.Bytes.{window, align_up};
 ghost use Rattle.archive_shape_layout.specs.Content.{pointee_length};
 ghost use Rattle.archive_shape_layout.specs.Shape.{pointer_size};
@@ -8,17 +7,17 @@ ghost use Rattle.archive_shape_layout.specs.Shape.Shape.{tuple};
 ghost use Rattle.archive_shape_layout.specs.Shape.Shapes.{no_shapes, more_shapes};
 ghost use Rattle.archive_shape_layout.proofs.Naming.{first_types, other_types};
 ghost use Rattle.archive_shape.specs.Bytes.{overwrite};
+ghost use Rattle.archive_shape.specs.Calls.{LeadsBack, LeadsFrom};
 ghost use Rattle.archive_shape.specs.Pointees.{GivesLength};
-ghost use Rattle.archive_shape.specs.Offsets.{difference, Leads};
+ghost use Rattle.archive_shape.specs.Offsets.{difference};
 ghost use Rattle.archive_shape.specs.Pointers.{metadata_at, metadata_end, pointer_written};
 ghost use Rattle.archive_shape_layout.proofs.PointerSizes.{pointer_sized, pointer_aligned, pointer_aligns};
-ghost use Rattle.archive_shape_writing.specs.declared.error.Error.TheVariants.{IsizeOverflow};
+ghost use Rattle.archive_shape_layout.specs.declared.error.Error.TheVariants.{IsizeOverflow};
 
 use crate::pointers::{Offset, RawRelPtr};
 use crate::references::{ArchivePointee, Metadata, Place, Ref};
 use crate::types::Portable;
-use archive_shape_layout::{Shape, Shapes};
-use archive_shape_writing::Error;
+use archive_shape_layout::{Error, Shape, Shapes};
 use std::alloc::{AllocError, Global};
 use std::marker::PhantomData;
 
@@ -106,7 +105,7 @@ impl<T: Portable, O: Offset> RelPtr<T, O> {
             (λ _. O.fits (difference out.entry.pos to) × (out.exit.0.now ≡ overwrite out.entry.out.now out.entry.start
             (O.offset_bytes (difference out.entry.pos to))))
             (λ e. (e ≡ IsizeOverflow) × ((O.fits (difference out.entry.pos to) → ⊥) × (out.exit.0.now ≡ out.entry.out.now))) }
-        ensures leads { OnOk result (Leads out.entry.pos (O.offset_of (O.offset_bytes (difference out.entry.pos to))) to) }
+        ensures leads { LeadsBack (λ by. O.offset_of (O.offset_bytes by)) out.entry.pos to result }
     {
         let Place {
             out,
@@ -133,7 +132,7 @@ impl<T: ArchivePointee, O: Offset> RelPtr<T, O> {
             (O.offset_bytes (difference out.entry.pos to))
             (metadata_at O.SIZE T.ArchivedMetadata.ALIGN) (T.ArchivedMetadata.bytes_of metadata)))
             (λ e. (e ≡ IsizeOverflow) × ((O.fits (difference out.entry.pos to) → ⊥) × (out.exit.0.now ≡ out.entry.out.now))) }
-        ensures leads { OnOk result (Leads out.entry.pos (O.offset_of (O.offset_bytes (difference out.entry.pos to))) to) }
+        ensures leads { LeadsBack (λ by. O.offset_of (O.offset_bytes by)) out.entry.pos to result }
     {
         let Place {
             out,
@@ -197,9 +196,7 @@ impl<T: ArchivePointee, O: Offset> RelPtr<T, O> {
     /// Returns the position that the pointer leads to, or `None` where it leads to no position.
     pub fn target(this: Ref<'_, Self>) -> Option<usize>
         requires { this.pos + O.SIZE ≤ length this.bytes.now }
-        ensures { MatchOption result
-            (FitsUnsigned w64 (pos this.entry.pos +ℤ O.offset_of (window this.entry.bytes.now this.entry.pos O.SIZE)) → ⊥)
-            (Leads this.entry.pos (O.offset_of (window this.entry.bytes.now this.entry.pos O.SIZE))) }
+        ensures { LeadsFrom this.entry.pos (O.offset_of (window this.entry.bytes.now this.entry.pos O.SIZE)) result }
     {
         RawRelPtr::target(Self::raw(this))
     }

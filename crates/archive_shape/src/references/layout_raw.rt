@@ -1,7 +1,5 @@
 //! The size and the alignment of what a pointer leads to.
-ghost use Rattle.std.specs.Prelude.{◌≡◌, ◌^◌, ◌≤◌, MatchOption};
-ghost use Rattle.archive_shape_layout.specs.Shape.{element_align};
-ghost use Rattle.archive_shape.specs.Pointees.{extent_of};
+ghost use Rattle.archive_shape.specs.Calls.{IsLayoutOf};
 
 use crate::references::{ArchivePointee, Slice, Str};
 use crate::types::Portable;
@@ -11,9 +9,7 @@ pub trait LayoutRaw: ArchivePointee {
     /// Returns the size and the alignment in bytes of `len` elements, or of the one value of a sized type. Returns
     /// `None` where the size is above `usize::MAX`.
     fn layout_raw(len: usize) -> Option<(usize, usize)>
-        ensures { MatchOption result
-            (2 ^ 64 ≤ extent_of Self.pointee len)
-            (λ layout. (layout.0 ≡ extent_of Self.pointee len) × (layout.1 ≡ element_align Self.pointee)) };
+        ensures { IsLayoutOf Self.pointee len result };
 }
 
 impl<T: Portable> LayoutRaw for T {

@@ -4,7 +4,7 @@ use archive_shape::{
     ArchivedI16, ArchivedI32, ArchivedI64, ArchivedU16, ArchivedU32, ArchivedU64, Offset,
     signed_offset,
 };
-use archive_shape_writing::Error;
+use archive_shape_layout::Error;
 
 const HALF: usize = 0x8000_0000_0000_0000;
 

@@ -4,7 +4,7 @@ use archive_shape::{
     Place, Portable, RawRelPtr, RawRelPtrI16, RawRelPtrI32, RawRelPtrI64, RawRelPtrU8,
     RawRelPtrU16, Ref,
 };
-use archive_shape_writing::Error;
+use archive_shape_layout::Error;
 
 #[test]
 fn pointers_that_fit_lead_to_their_targets(rt: HostRuntime) {

@@ -2,7 +2,7 @@
 #![tactic(auto, unfolding(archive_shape_layout::specs::Bytes::align_up))]
 
 use archive_shape::{ArchivedI32, ArchivedI64, ArchivedU64, Place, Ref, RelPtr};
-use archive_shape_writing::Error;
+use archive_shape_layout::Error;
 
 #[test]
 fn pointers_fit_up_to_both_ends(rt: HostRuntime) {

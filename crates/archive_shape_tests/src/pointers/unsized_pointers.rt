@@ -5,7 +5,7 @@ use archive_shape::{
     ArchivedI16, ArchivedI32, ArchivedU32, ArchivedU64, LittleEndian, Place, Portable, Ref, RelPtr,
     Slice, Str,
 };
-use archive_shape_writing::Error;
+use archive_shape_layout::Error;
 
 #[test]
 fn lengths_stand_after_the_offsets_of_pointers_that_fit(rt: HostRuntime) {

@@ -1,5 +1,5 @@
 //! Tests of the messages of errors.
-use archive_shape_writing::Error;
+use archive_shape_layout::Error;
 use std::test::Fail;
 
 #[test]

@@ -1,6 +1,6 @@
 //! Tests of writers.
 use archive_doubles::FailingWriter;
-use archive_shape_writing::{
+use archive_shape_layout::{
     Error, Positional, Writer, write_all_pieces, write_three_pieces, write_two_pieces,
 };
 

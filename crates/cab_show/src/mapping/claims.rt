@@ -1,13 +1,13 @@
 //! The regions that the check of an archive claims.
 ghost use Rattle.std.specs.Prelude.{◌≡◌, ◌≢◌, ◌<◌, ◌≤◌, ◌++◌, ◌∷◌, [], length, IfErr, MatchResult};
 ghost use Rattle.archive_shape.specs.Kept.{pushed};
-ghost use Rattle.cab_files.specs.Cabinet.Archives.Refused.{refusal_of};
-ghost use Rattle.cab_files.specs.Cabinet.Documents.Audit.{IsRefusedFor};
+ghost use Rattle.cabinet_archives.specs.Refused.{refusal_of};
+ghost use Rattle.cabinet_documents.specs.Audit.{IsRefusedFor};
 
 use archive_core_validation::{
     ArchiveContext, ArchiveValidator, PushedRange, SharedValidator, Validator, access_with_context,
 };
-use archive_shape_writing::Error;
+use archive_shape_layout::Error;
 use cabinet::{ArchivedNode, OpenRefusal};
 use std::alloc::Global;
 

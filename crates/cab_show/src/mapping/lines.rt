@@ -3,7 +3,7 @@ ghost use Rattle.std.specs.Prelude.{◌≡◌, ◌-◌, ◌^◌, ◌<◌, IfOk};
 
 use crate::mapping::paths::{has_steps, write_path};
 use crate::mapping::regions::Region;
-use archive_shape_writing::{Error, Writer, write_three_pieces};
+use archive_shape_layout::{Error, Writer, write_three_pieces};
 use cabinet_text_bytes::Decimal;
 use cabinet_text_grammar::MAX_DEPTH;
 

@@ -1,16 +1,16 @@
 //! The map of the bytes of an archive.
 ghost use Rattle.std.specs.Prelude.{◌≡◌, ◌-◌, ◌^◌, ◌<◌, IfErr, MatchResult};
-ghost use Rattle.cab_files.specs.Cabinet.Archives.Refused.{refusal_of};
-ghost use Rattle.cab_files.specs.Cabinet.Documents.Accepted.{Accepted};
-ghost use Rattle.cab_files.specs.Cabinet.Documents.Audit.{IsRefusedFor};
-ghost use Rattle.cab_files.specs.Cabinet.TextGrammar.Tree.{Tree};
+ghost use Rattle.cabinet_archives.specs.Refused.{refusal_of};
+ghost use Rattle.cabinet_documents.specs.Accepted.{Accepted};
+ghost use Rattle.cabinet_documents.specs.Audit.{IsRefusedFor};
+ghost use Rattle.cabinet_text_grammar.specs.Tree.{Tree};
 
 use crate::mapping::claims::claims_of;
 use crate::mapping::lines::write_lines;
 use crate::mapping::naming::name_regions;
 use crate::mapping::regions::{Region, regions_of};
 use crate::mapping::summary::write_summary;
-use archive_shape_writing::{Error, Writer};
+use archive_shape_layout::{Error, Writer};
 use cabinet::{OpenRefusal, check};
 use std::alloc::Global;
 

@@ -3,7 +3,7 @@ ghost use Rattle.std.specs.Prelude.{◌≡◌, ◌-◌, ◌^◌, ◌<◌, IfOk};
 
 use crate::mapping::reading::{slot_at, text_at};
 use crate::mapping::regions::{Region, What};
-use archive_shape_writing::{Error, Writer, write_two_pieces};
+use archive_shape_layout::{Error, Writer, write_two_pieces};
 use cabinet_text_bytes::{Decimal, write_escaped};
 
 /// Writes the step by the key of a slot.

@@ -4,7 +4,7 @@ ghost use Rattle.std.specs.Prelude.{◌≡◌, ◌-◌, ◌^◌, ◌<◌, IfOk};
 use crate::mapping::lines::write_number;
 use crate::mapping::reading::{kind_at, slot_at};
 use crate::mapping::regions::Region;
-use archive_shape_writing::{Error, Writer, write_three_pieces};
+use archive_shape_layout::{Error, Writer, write_three_pieces};
 
 /// The kinds of nodes, by their order in `Kind`.
 const KINDS: [&str; 10] = [

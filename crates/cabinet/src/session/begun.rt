@@ -1,5 +1,5 @@
 //! The state that a run keeps from one piece of its input to the next.
-ghost use Rattle.std.specs.Prelude.{◌≡◌, ◌≢◌, ℕ, ◌+◌, ◌≤◌, Bool, List, [], length, vec_len, IfErr, OnOk};
+ghost use Rattle.std.specs.Prelude.{◌≡◌, ◌≢◌, ◌+◌, ◌≤◌, [], length, vec_len, IfErr, OnOk};
 
 use super::{Count, RunCause};
 use std::alloc::Global;
@@ -25,8 +25,7 @@ pub(super) struct Begun {
 }
 
 impl Begun {
-    ghost use Rattle.cabinet.specs.Steps.{newlines};
-    ghost use Rattle.cabinet.specs.Progress.{Takes};
+    ghost use Rattle.cabinet.specs.Calls.{LengthensLine};
 
     /// Returns the state at the start of an input.
     pub(super) fn new(alloc: Global) -> Begun
@@ -50,8 +49,7 @@ impl Begun {
         ensures not_read { IfErr result (λ cause. cause ≢ RunCause.Read) }
         ensures not_write { IfErr result (λ cause. cause ≢ RunCause.Write) }
         ensures count { self.new.count ≡ self.old.count }
-        ensures taken { newlines bytes.now ≡ 0 → (counts : Bool) (y new : List ℕ)
-            → Takes counts bytes.now y y new new self.old self.new result }
+        ensures taken { LengthensLine bytes.now self.old self.new result }
     {
         if bytes.is_empty() {
             return Ok(());

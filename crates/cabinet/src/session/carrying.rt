@@ -1,25 +1,22 @@
 //! Carrying out and answering the lines of an input.
-ghost use Rattle.std.specs.Prelude.{◌≡◌, ◌≢◌, ℕ, ◌+◌, ◌-◌, ◌^◌, ◌<◌, ◌≤◌, ◌==◌, ◌++◌, List, [], ◌∷◌, length, drop, Some, IfOk, IfErr, OnOk, MatchResult, option_map, position, IsTrue};
-ghost use Rattle.archive_shape_writing.specs.Writing.{Writes};
+ghost use Rattle.std.specs.Prelude.{◌≡◌, ◌≢◌, ◌+◌, ◌-◌, ◌^◌, ◌<◌, ◌≤◌, ◌==◌, [], ◌∷◌, length, Some, IfOk, IfErr, OnOk, option_map, position};
 ghost use Rattle.cabinet_text_grammar.specs.Tree.{Tree};
 ghost use Rattle.cabinet_text_grammar.specs.Line.{Says};
 ghost use Rattle.cabinet_text_grammar.specs.Answering.{reply};
-ghost use Rattle.cabinet.specs.Session.{lines_of, answer_to, one_if_done};
+ghost use Rattle.cabinet.specs.Calls.{WritesAnswer, WritesReply, CountsEdit, WriterEndsCall, CarriesLine, EndsLine, TakesPiece, EndsInput};
+ghost use Rattle.cabinet.specs.Session.{one_if_done};
 ghost use Rattle.cabinet_text_nodes.specs.Lines.{IsQuestion};
 ghost use Rattle.cabinet_text_nodes.specs.Outcomes.{outcome_of};
 ghost use Rattle.cabinet_text_nodes.specs.View.{line_of};
-ghost use Rattle.cabinet_archives.specs.Documents.Accepted.{Accepted};
 ghost use Rattle.cabinet_archives.specs.Failing.{FailsByWriter};
 ghost use Rattle.cabinet.specs.Editing.{Edited};
-ghost use Rattle.cabinet.specs.Steps.{longest_line, newlines, Carried, Faulted, Completed};
-ghost use Rattle.cabinet.specs.Failures.{WriterFails};
-ghost use Rattle.cabinet.specs.Progress.{IsAt, StopsAt, Takes, KeepsEdits};
+ghost use Rattle.cabinet.specs.Progress.{KeepsEdits};
 
 use super::begun::{Begun, LONGEST_INPUT, LONGEST_LINE};
 use super::{Count, RunCause};
 use crate::opened::Opened;
 use archive_hash_probing::Scan;
-use archive_shape_writing::{Error, Writer};
+use archive_shape_layout::{Error, Writer};
 use cabinet_text_nodes::{Line, LineRefusal, SetAnswer, write_bad, write_outcome};
 use cabinet_text_reading::read_line;
 use std::alloc::{AllocError, Global};
@@ -57,8 +54,7 @@ fn answer_question<G: Scan, W: Writer>(
     ensures unedited { Edited opened.now.bytes.now opened.now.bytes.now
         (Some (line_of question.now) ∷ []) }
     ensures undone { (t : Tree) → one_if_done (reply t (Some (line_of question.now))) ≡ 0 }
-    ensures written { (t : Tree) → Accepted opened.now.bytes.now t
-        → Writes W.Writer writer.old writer.new (answer_to t (Some (line_of question.now))) result }
+    ensures written { WritesAnswer W.Writer opened.now.bytes.now question.now writer.old writer.new result }
     ensures counted { FailsByWriter W.Writer writer.old writer.new result }
 {
     match opened.ask(question, writer) {
@@ -79,11 +75,9 @@ fn carry_out<G: Scan, W: Writer>(
     ensures same { opened.new.bytes.ghost_name ≡ opened.old.bytes.ghost_name }
     ensures edited { Edited opened.old.bytes.now opened.new.bytes.now
         (option_map line_of said.now ∷ []) }
-    ensures written { (t : Tree) → Accepted opened.old.bytes.now t
-        → Writes W.Writer writer.old writer.new (answer_to t (option_map line_of said.now)) result }
+    ensures written { WritesReply W.Writer opened.old.bytes.now said.now writer.old writer.new result }
     ensures counted { FailsByWriter W.Writer writer.old writer.new result }
-    ensures edits_counted { (t : Tree) → Accepted opened.old.bytes.now t
-        → edits.new ≡ edits.old + one_if_done (reply t (option_map line_of said.now)) }
+    ensures edits_counted { CountsEdit opened.old.bytes.now said.now edits.old edits.new }
     ensures edits_grow { edits.new ≤ edits.old + 1 }
 {
     match said {
@@ -113,16 +107,9 @@ fn answer_line<G: Scan, W: Writer>(
     ensures line_counted { OnOk result (count.new.lines ≡ count.old.lines + 1) }
     ensures edits_within { count.new.edits ≤ count.new.lines }
     ensures not_read { IfErr result (λ cause. cause ≢ RunCause.Read) }
-    ensures writer_fails { MatchResult result (λ _. W.failures writer.new ≡ W.failures writer.old)
-        (λ cause. WriterFails W.COUNTS cause (W.failures writer.old) (W.failures writer.new)) }
+    ensures writer_fails { WriterEndsCall W.Writer writer.old writer.new result }
     ensures edits { KeepsEdits opened.old.bytes.now opened.new.bytes.now count.old count.new }
-    ensures carried { IsTrue W.OBSERVABLE → (input x old left : List ℕ) (more : List (List ℕ))
-        → Carried input x opened.old.bytes.now old (W.contents writer.old) count.old.lines count.old.edits
-        → drop count.old.lines (lines_of input) ≡ line.now ∷ more
-        → length line.now ≤ longest_line
-        → MatchResult result
-        (λ _. Carried input x opened.new.bytes.now old (W.contents writer.new) count.new.lines count.new.edits)
-        (λ cause. Faulted W.COUNTS input left x opened.new.bytes.now old (W.contents writer.new) count.new.lines count.new.edits cause) }
+    ensures carried { CarriesLine W.Writer line.now opened.old.bytes.now opened.new.bytes.now writer.old writer.new count.old count.new result }
 {
     let Ok(said) = read_said(alloc, line) else {
         return Err(RunCause::OutOfMemory);
@@ -147,13 +134,10 @@ fn end_line<G: Scan, W: Writer>(
     ensures same { opened.new.bytes.ghost_name ≡ opened.old.bytes.ghost_name }
     ensures total { OnOk result (begun.new.total ≡ begun.old.total + length rest.now + 1) }
     ensures not_read { IfErr result (λ cause. cause ≢ RunCause.Read) }
-    ensures writer_fails { MatchResult result (λ _. W.failures writer.new ≡ W.failures writer.old)
-        (λ cause. WriterFails W.COUNTS cause (W.failures writer.old) (W.failures writer.new)) }
+    ensures writer_fails { WriterEndsCall W.Writer writer.old writer.new result }
     ensures edits { KeepsEdits opened.old.bytes.now opened.new.bytes.now begun.old.count
         begun.new.count }
-    ensures taken { IsTrue W.OBSERVABLE → newlines rest.now ≡ 0
-        → Takes W.COUNTS (rest.now ++ 10 ∷ []) opened.old.bytes.now opened.new.bytes.now
-        (W.contents writer.old) (W.contents writer.new) begun.old begun.new result }
+    ensures taken { EndsLine W.Writer rest.now opened.old.bytes.now opened.new.bytes.now writer.old writer.new begun.old begun.new result }
 {
     if rest.len() > LONGEST_LINE - begun.line.len() {
         return Err(RunCause::LineTooLong);
@@ -197,13 +181,10 @@ fn feed<G: Scan, W: Writer>(
     ensures total { OnOk result (begun.new.total ≡ begun.old.total + length piece.now) }
     ensures same { opened.new.bytes.ghost_name ≡ opened.old.bytes.ghost_name }
     ensures not_read { IfErr result (λ cause. cause ≢ RunCause.Read) }
-    ensures writer_fails { MatchResult result (λ _. W.failures writer.new ≡ W.failures writer.old)
-        (λ cause. WriterFails W.COUNTS cause (W.failures writer.old) (W.failures writer.new)) }
+    ensures writer_fails { WriterEndsCall W.Writer writer.old writer.new result }
     ensures edits { KeepsEdits opened.old.bytes.now opened.new.bytes.now begun.old.count
         begun.new.count }
-    ensures taken { IsTrue W.OBSERVABLE
-        → Takes W.COUNTS piece.now opened.old.bytes.now opened.new.bytes.now (W.contents writer.old)
-        (W.contents writer.new) begun.old begun.new result }
+    ensures taken { TakesPiece W.Writer piece.now opened.old.bytes.now opened.new.bytes.now writer.old writer.new begun.old begun.new result }
 {
     let mut rest = piece;
     while let Some(end) = newline_in(rest) {
@@ -228,13 +209,10 @@ pub(super) fn take_piece<G: Scan, W: Writer>(
     ensures total { OnOk result (begun.new.total ≡ begun.old.total + length piece.now) }
     ensures same { opened.new.bytes.ghost_name ≡ opened.old.bytes.ghost_name }
     ensures not_read { IfErr result (λ cause. cause ≢ RunCause.Read) }
-    ensures writer_fails { MatchResult result (λ _. W.failures writer.new ≡ W.failures writer.old)
-        (λ cause. WriterFails W.COUNTS cause (W.failures writer.old) (W.failures writer.new)) }
+    ensures writer_fails { WriterEndsCall W.Writer writer.old writer.new result }
     ensures edits { KeepsEdits opened.old.bytes.now opened.new.bytes.now begun.old.count
         begun.new.count }
-    ensures taken { IsTrue W.OBSERVABLE
-        → Takes W.COUNTS piece.now opened.old.bytes.now opened.new.bytes.now (W.contents writer.old)
-        (W.contents writer.new) begun.old begun.new result }
+    ensures taken { TakesPiece W.Writer piece.now opened.old.bytes.now opened.new.bytes.now writer.old writer.new begun.old begun.new result }
 {
     let room = LONGEST_INPUT - begun.total;
     if piece.len() as u64 <= room {
@@ -261,15 +239,10 @@ pub(super) fn end_input<G: Scan, W: Writer>(
     requires { W.failures writer.old < 2 ^ 64 - 1 }
     ensures same { opened.new.bytes.ghost_name ≡ opened.old.bytes.ghost_name }
     ensures not_read { IfErr result (λ cause. cause ≢ RunCause.Read) }
-    ensures writer_fails { MatchResult result (λ _. W.failures writer.new ≡ W.failures writer.old)
-        (λ cause. WriterFails W.COUNTS cause (W.failures writer.old) (W.failures writer.new)) }
+    ensures writer_fails { WriterEndsCall W.Writer writer.old writer.new result }
     ensures edits { KeepsEdits opened.old.bytes.now opened.new.bytes.now begun.old.count
         begun.new.count }
-    ensures ended { IsTrue W.OBSERVABLE → (input x old left : List ℕ)
-        → IsAt input x opened.old.bytes.now old (W.contents writer.old) begun.old []
-        → MatchResult result
-        (λ _. Completed input x opened.new.bytes.now old (W.contents writer.new) begun.new.count.lines begun.new.count.edits)
-        (StopsAt W.COUNTS input left x opened.new.bytes.now old (W.contents writer.new) begun.new) }
+    ensures ended { EndsInput W.Writer opened.old.bytes.now opened.new.bytes.now writer.old writer.new begun.old begun.new result }
 {
     if begun.line.is_empty() {
         return Ok(());

@@ -1,11 +1,11 @@
 //! How a serializer writes each shared text and each whole once.
 ghost use Rattle.std.specs.Prelude.{◌≡◌, ◌-◌, ◌^◌, ◌<◌, MatchResult};
 ghost use Rattle.archive_shape.specs.Sharing.{progress_of};
-ghost use Rattle.archive_shape_writing.specs.Progress.{IsSame, Starts, Finishes};
-ghost use Rattle.archive_shape_writing.specs.declared.error.Error.TheVariants.{OutOfMemory};
-ghost use Rattle.archive_shape_writing.specs.Writing.{Writes};
-ghost use Rattle.archive_forms_values.specs.FormsLaws.Shared.{shared_text_spelling};
-ghost use Rattle.archive_forms_values.specs.FormsLaws.Serializing.{HasState, Serializes};
+ghost use Rattle.archive_shape_layout.specs.Progress.{IsSame, Starts, Finishes};
+ghost use Rattle.archive_shape_layout.specs.declared.error.Error.TheVariants.{OutOfMemory};
+ghost use Rattle.archive_shape_layout.specs.Writing.{Writes};
+ghost use Rattle.archive_forms_laws.specs.Shared.{shared_text_spelling};
+ghost use Rattle.archive_forms_laws.specs.Serializing.{HasState, Serializes};
 ghost use Rattle.cabinet_documents.specs.SharedKeys.{key_of_text, key_of_number};
 ghost use Rattle.cabinet_archived.specs.Sharing.{text_padding};
 

@@ -2,10 +2,10 @@
 ghost use Rattle.std.specs.Prelude.{◌≡◌, MatchResult};
 ghost use Rattle.std.specs.BTreeMap.{get_by_text};
 ghost use Rattle.archive_core_serializing.specs.Kept.{IsNoneMet};
-ghost use Rattle.archive_shape_writing.specs.Progress.{IsSet};
-ghost use Rattle.archive_shape_writing.specs.Progress.Progress.{ended};
-ghost use Rattle.archive_shape_writing.specs.declared.error.Error.TheVariants.{OutOfMemory};
-ghost use Rattle.cabinet_documents.specs.TextGrammar.TextKey.{text_key, text_of_key};
+ghost use Rattle.archive_shape_layout.specs.Progress.{IsSet};
+ghost use Rattle.archive_shape_layout.specs.Progress.Progress.{ended};
+ghost use Rattle.archive_shape_layout.specs.declared.error.Error.TheVariants.{OutOfMemory};
+ghost use Rattle.cabinet_text_grammar.specs.TextKey.{text_key, text_of_key};
 ghost use Rattle.cabinet_archived.specs.Sharing.{progress_at};
 
 use archive_shape::{Error, Registry};

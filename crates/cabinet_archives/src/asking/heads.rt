@@ -1,8 +1,8 @@
 //! The head of an archived node.
 ghost use Rattle.std.specs.Prelude.{◌≡◌};
 ghost use Rattle.archive_forms_values.specs.Parts.{HasValue};
-ghost use Rattle.cabinet_text_nodes.specs.TextGrammar.Answering.{head_of};
-ghost use Rattle.cabinet_archived.specs.Documents.Node.{node_shape, KnowsNode};
+ghost use Rattle.cabinet_text_grammar.specs.Answering.{head_of};
+ghost use Rattle.cabinet_documents.specs.Node.{node_shape, KnowsNode};
 ghost use Rattle.cabinet_text_nodes.specs.View.{lent_item};
 ghost use Rattle.cabinet_archives.specs.Found.{OfDocument};
 

@@ -2,12 +2,12 @@
 ghost use Rattle.std.specs.Prelude.{◌≡◌, ◌-◌, ◌^◌, ◌<◌, ℕ, List, length};
 ghost use Rattle.std.specs.Iterator.{IsFinite};
 ghost use Rattle.std.specs.List.{filter};
-ghost use Rattle.archive_shape.specs.ShapeLayout.Content.{members};
-ghost use Rattle.archive_shape.specs.ShapeLayout.Content.Part.{at};
-ghost use Rattle.archive_shape_writing.specs.Writing.{Writes};
+ghost use Rattle.archive_shape_layout.specs.Content.{members};
+ghost use Rattle.archive_shape_layout.specs.Content.Part.{at};
+ghost use Rattle.archive_shape_layout.specs.Writing.{Writes};
 ghost use Rattle.archive_forms_values.specs.Parts.{HasValue};
-ghost use Rattle.cabinet_text_nodes.specs.TextGrammar.Answering.{keys_are, lies_within, spelled_keys, spelled_answer};
-ghost use Rattle.cabinet_archived.specs.Documents.Table.{item_keys};
+ghost use Rattle.cabinet_text_grammar.specs.Answering.{keys_are, lies_within, spelled_keys, spelled_answer};
+ghost use Rattle.cabinet_documents.specs.Table.{item_keys};
 ghost use Rattle.cabinet_archives.specs.Kept.{index_shape};
 ghost use Rattle.cabinet_archives.specs.Keyed.{OfMap, knows_pairs};
 ghost use Rattle.cabinet_archives.specs.Keys.{YieldsTexts};
@@ -18,7 +18,7 @@ ghost use Rattle.cabinet_archives.specs.Sound.{IsSoundPart};
 use crate::maps::{KeptMap, OrderedMap};
 use archive_forms_values::ArchivedString;
 use archive_shape::Ref;
-use archive_shape_writing::{Error, Writer};
+use archive_shape_layout::{Error, Writer};
 use cabinet_text_nodes::{write_key, write_keys_head};
 
 /// Writes each of the keys.

@@ -1,14 +1,14 @@
 //! The kind of the node that a path leads to, and what the way there takes.
 ghost use Rattle.std.specs.Prelude.{◌≡◌, length};
 ghost use Rattle.std.specs.Option.{option_map};
-ghost use Rattle.archive_shape.specs.ShapeLayout.Content.Part.{at};
-ghost use Rattle.archive_shape.specs.ShapeLayout.Holds.{root_position as position_of_root};
+ghost use Rattle.archive_shape_layout.specs.Content.Part.{at};
+ghost use Rattle.archive_shape_layout.specs.Holds.{root_position as position_of_root};
 ghost use Rattle.archive_forms_values.specs.Parts.{HasValue};
-ghost use Rattle.cabinet_archived.specs.Documents.Accepted.{Accepted};
-ghost use Rattle.cabinet_archived.specs.Documents.Node.{node_shape, KnowsNode};
+ghost use Rattle.cabinet_documents.specs.Accepted.{Accepted};
+ghost use Rattle.cabinet_documents.specs.Node.{node_shape, KnowsNode};
 ghost use Rattle.cabinet_text_nodes.specs.Kinds.{kind_of};
-ghost use Rattle.cabinet_text_nodes.specs.TextGrammar.Path.{node_at};
-ghost use Rattle.cabinet_text_nodes.specs.TextGrammar.Tree.{Tree};
+ghost use Rattle.cabinet_text_grammar.specs.Path.{node_at};
+ghost use Rattle.cabinet_text_grammar.specs.Tree.{Tree};
 ghost use Rattle.cabinet_text_nodes.specs.View.{path_of};
 ghost use Rattle.cabinet_archives.specs.Cost.{CountsPath, PathTakes};
 ghost use Rattle.cabinet_archives.specs.Found.{OfDocument};

@@ -1,11 +1,11 @@
 //! Answers to questions about the document that bytes are the archive of.
 ghost use Rattle.std.specs.Prelude.{◌-◌, ◌^◌, ◌<◌, IfOk};
-ghost use Rattle.archive_shape.specs.ShapeLayout.Content.Part.{at};
-ghost use Rattle.archive_shape_writing.specs.Writing.{Writes};
+ghost use Rattle.archive_shape_layout.specs.Content.Part.{at};
+ghost use Rattle.archive_shape_layout.specs.Writing.{Writes};
 ghost use Rattle.archive_forms_values.specs.Parts.{HasValue};
-ghost use Rattle.cabinet_text_nodes.specs.TextGrammar.Answering as grammar;
-ghost use Rattle.cabinet_text_nodes.specs.TextGrammar.Answering.{answer, keys_of, keys_within, spelled_answer};
-ghost use Rattle.cabinet_archived.specs.Documents.Node.{node_shape, KnowsNode};
+ghost use Rattle.cabinet_text_grammar.specs.Answering as grammar;
+ghost use Rattle.cabinet_text_grammar.specs.Answering.{answer, keys_of, keys_within, spelled_answer};
+ghost use Rattle.cabinet_documents.specs.Node.{node_shape, KnowsNode};
 ghost use Rattle.cabinet_text_nodes.specs.Answers.{Tells};
 ghost use Rattle.cabinet_text_nodes.specs.Lines.{IsQuestion};
 ghost use Rattle.cabinet_text_nodes.specs.View.{line_of};
@@ -18,7 +18,7 @@ use crate::asking::keys::{write_kept_keys, write_keys_within, write_ordered_keys
 use crate::asking::walk::find;
 use archive_hash_probing::Scan;
 use archive_shape::Ref;
-use archive_shape_writing::{Error, Writer};
+use archive_shape_layout::{Error, Writer};
 use cabinet_archived::{ArchivedKind, ArchivedNode};
 use cabinet_text_nodes::{Asked, Line, answer_missing, answer_wrong, write_head};
 

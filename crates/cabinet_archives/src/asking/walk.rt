@@ -1,9 +1,9 @@
 //! The node that a path leads to in the bytes of an archive, and what the way there takes.
 ghost use Rattle.std.specs.Prelude.{◌≡◌, [], ◌∷◌, MatchOption};
-ghost use Rattle.archive_shape.specs.ShapeLayout.Content.Part.{at};
+ghost use Rattle.archive_shape_layout.specs.Content.Part.{at};
 ghost use Rattle.archive_forms_values.specs.Parts.{HasValue};
-ghost use Rattle.cabinet_archived.specs.Documents.Node.{node_shape, KnowsNode};
-ghost use Rattle.cabinet_text_nodes.specs.TextGrammar.Path.{enters};
+ghost use Rattle.cabinet_documents.specs.Node.{node_shape, KnowsNode};
+ghost use Rattle.cabinet_text_grammar.specs.Path.{enters};
 ghost use Rattle.cabinet_text_nodes.specs.View.{step_of, path_of};
 ghost use Rattle.cabinet_archives.specs.Cost.{CountsPath, StepTakes};
 ghost use Rattle.cabinet_archives.specs.Found.{OfDocument, Reaches, ReachesNone};

@@ -1,8 +1,8 @@
 //! The entries of a map that is loaded, in the order in which the map of a document has them.
 ghost use Rattle.std.specs.Prelude.{◌≡◌, ℕ, List, IfOk, string_bytes};
-ghost use Rattle.cabinet_archived.specs.Documents.Denotes.{tagged_value};
-ghost use Rattle.cabinet_text_nodes.specs.TextGrammar.Keys as keys;
-ghost use Rattle.cabinet_text_nodes.specs.TextGrammar.Tree.{Tree, no_pairs};
+ghost use Rattle.cabinet_documents.specs.Denotes.{tagged_value};
+ghost use Rattle.cabinet_text_grammar.specs.Keys as keys;
+ghost use Rattle.cabinet_text_grammar.specs.Tree.{Tree, no_pairs};
 ghost use Rattle.cabinet_text_nodes.specs.View.{node_tree, node_pairs};
 ghost use Rattle.cabinet_archives.specs.Hashed.{table_shape};
 ghost use Rattle.cabinet_archives.specs.Keyed.{knows_pairs};

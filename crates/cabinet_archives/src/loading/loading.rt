@@ -1,7 +1,7 @@
 //! The document that bytes are the archive of.
 ghost use Rattle.std.specs.Prelude.{◌≡◌, IfOk};
-ghost use Rattle.cabinet_text_nodes.specs.TextGrammar.Tree.{Tree};
-ghost use Rattle.cabinet_archived.specs.Documents.Accepted.{Accepted};
+ghost use Rattle.cabinet_text_grammar.specs.Tree.{Tree};
+ghost use Rattle.cabinet_documents.specs.Accepted.{Accepted};
 
 use crate::loading::nodes::load_node;
 use crate::loading::texts::LoadedTexts;

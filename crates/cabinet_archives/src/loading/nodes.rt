@@ -1,10 +1,10 @@
 //! The nodes of archives as nodes of documents.
 ghost use Rattle.std.specs.Prelude.{◌≤◌, IfOk, All};
-ghost use Rattle.archive_shape.specs.ShapeLayout.Shape.Shape.{option, box, vector};
-ghost use Rattle.archive_shape.specs.ShapeLayout.Shape.Pointee.{sized};
-ghost use Rattle.cabinet_archived.specs.Documents.Denotes.{tagged_value};
-ghost use Rattle.cabinet_archived.specs.Documents.Node.{node_shape, whole_shape, KnowsNode};
-ghost use Rattle.cabinet_text_nodes.specs.TextGrammar.Tree.{Pairs};
+ghost use Rattle.archive_shape_layout.specs.Shape.Shape.{option, box, vector};
+ghost use Rattle.archive_shape_layout.specs.Shape.Pointee.{sized};
+ghost use Rattle.cabinet_documents.specs.Denotes.{tagged_value};
+ghost use Rattle.cabinet_documents.specs.Node.{node_shape, whole_shape, KnowsNode};
+ghost use Rattle.cabinet_text_grammar.specs.Tree.{Pairs};
 ghost use Rattle.cabinet_archives.specs.Found.{OfDocument};
 ghost use Rattle.cabinet_archives.specs.Hashed.{table_shape};
 ghost use Rattle.cabinet_archives.specs.Keyed.{knows_pairs};

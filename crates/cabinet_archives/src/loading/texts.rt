@@ -1,9 +1,9 @@
 //! The shared texts of an archive that is loaded.
 ghost use Rattle.std.specs.Prelude.{◌≡◌, ℕ, false, List, IfOk, ⊤};
 ghost use Rattle.std.specs.Rc.{rc_str_bytes};
-ghost use Rattle.archive_shape.specs.ShapeLayout.Bytes.{window};
-ghost use Rattle.archive_shape.specs.ShapeLayout.Shape.Shape.{shared};
-ghost use Rattle.archive_shape.specs.ShapeLayout.Shape.Pointee.{str};
+ghost use Rattle.archive_shape_layout.specs.Bytes.{window};
+ghost use Rattle.archive_shape_layout.specs.Shape.Shape.{shared};
+ghost use Rattle.archive_shape_layout.specs.Shape.Pointee.{str};
 ghost use Rattle.archive_forms_rc.specs.Pointers.{HasCounted, IsRcStrAt};
 ghost use Rattle.cabinet_archives.specs.Loading.{AreReadOf};
 

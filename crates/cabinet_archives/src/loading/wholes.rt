@@ -1,8 +1,8 @@
 //! The wholes of an archive that is loaded.
 ghost use Rattle.std.specs.Prelude.{◌≡◌, ◌<◌, ℕ, List, [], IfOk, Some};
-ghost use Rattle.cabinet_archived.specs.Documents.Node.{node_shape, KnowsNode};
-ghost use Rattle.cabinet_text_nodes.specs.TextGrammar.Tree.{IsLegal, depth};
-ghost use Rattle.cabinet_text_nodes.specs.TextGrammar.Wholes.{numbered, with_tree};
+ghost use Rattle.cabinet_documents.specs.Node.{node_shape, KnowsNode};
+ghost use Rattle.cabinet_text_grammar.specs.Tree.{IsLegal, depth};
+ghost use Rattle.cabinet_text_grammar.specs.Wholes.{numbered, with_tree};
 ghost use Rattle.cabinet_text_nodes.specs.View.{node_tree, table_of};
 ghost use Rattle.cabinet_archives.specs.Found.{OfDocument};
 ghost use Rattle.cabinet_archives.specs.Loading.{AreWholesOf, loaded_table, read_at};

@@ -1,17 +1,17 @@
 //! Kept maps of archived nodes: whether each key is found under its number, and the node of a key.
 ghost use Rattle.std.specs.Prelude.{◌≡◌, ◌<◌, ℕ, List, IfSome, MatchOption};
-ghost use Rattle.archive_shape.specs.ShapeLayout.Value.{Value};
-ghost use Rattle.archive_shape.specs.ShapeLayout.Content.Part.{at};
-ghost use Rattle.archive_shape.specs.ShapeLayout.Shape.Shape.{text};
-ghost use Rattle.archive_forms_values.specs.FormsLaws.Text.{IsText};
+ghost use Rattle.archive_shape_layout.specs.Value.{Value};
+ghost use Rattle.archive_shape_layout.specs.Content.Part.{at};
+ghost use Rattle.archive_shape_layout.specs.Shape.Shape.{text};
+ghost use Rattle.archive_forms_laws.specs.Text.{IsText};
 ghost use Rattle.archive_forms_values.specs.Parts.{HasValue};
-ghost use Rattle.archive_forms_values.specs.ShapeCanonical.Hash.{text_hash};
-ghost use Rattle.cabinet_archived.specs.Documents.Audit.{kept_faults};
-ghost use Rattle.cabinet_archived.specs.Documents.Node.{node_names, node_shape, pair_shape};
-ghost use Rattle.cabinet_archived.specs.Documents.Table.{kept_at, table_of};
-ghost use Rattle.cabinet_archived.specs.Documents.Walk.{Stop, Walks};
-ghost use Rattle.cabinet_archived.specs.Index.Lookups.{AnswersEntry, pair_of};
-ghost use Rattle.cabinet_archived.specs.Index.Maps.{count_of, entry_position};
+ghost use Rattle.archive_shape_canonical.specs.Hash.{text_hash};
+ghost use Rattle.cabinet_documents.specs.Audit.{kept_faults};
+ghost use Rattle.cabinet_documents.specs.Node.{node_names, node_shape, pair_shape};
+ghost use Rattle.cabinet_documents.specs.Table.{kept_at, table_of};
+ghost use Rattle.cabinet_documents.specs.Walk.{Stop, Walks};
+ghost use Rattle.archive_index.specs.Lookups.{AnswersEntry, pair_of};
+ghost use Rattle.archive_index.specs.Maps.{count_of, entry_position};
 ghost use Rattle.cabinet_archives.specs.Cost.{Searches};
 ghost use Rattle.cabinet_archives.specs.Kept.{HasNumbered, OfKept, index_shape, kept_search_faults, kept_tag_faults};
 ghost use Rattle.cabinet_archives.specs.Keyed.{KeyLeads, KeyLeadsNowhere, OfMap, SaysKey, knows_pairs};
@@ -21,8 +21,8 @@ use crate::maps::pairs::{has_key, is_found_at};
 use crate::opening::OpenRefusal;
 use archive_forms_values::ArchivedString;
 use archive_hash_maps::ArchivedHashTable;
+use archive_hash_maps::walking::number_at;
 use archive_hash_probing::{FxHasher64, Scan, hash_text, tag_of};
-use archive_hash_walking::number_at;
 use archive_shape::{Ref, Steps};
 use cabinet_archived::{ArchivedIndexMap, ArchivedNode, search_entries};
 

@@ -1,14 +1,14 @@
 //! Ordered maps of archived nodes: whether their keys ascend, and the node of a key.
 ghost use Rattle.std.specs.Prelude.{◌≡◌, ℕ, true, List, IfSome, MatchOption};
 ghost use Rattle.std.specs.Option.{option_map};
-ghost use Rattle.archive_shape.specs.ShapeLayout.Value.{Value};
-ghost use Rattle.archive_shape.specs.ShapeLayout.Content.{members};
-ghost use Rattle.archive_shape.specs.ShapeLayout.Content.Part.{at};
+ghost use Rattle.archive_shape_layout.specs.Value.{Value};
+ghost use Rattle.archive_shape_layout.specs.Content.{members};
+ghost use Rattle.archive_shape_layout.specs.Content.Part.{at};
 ghost use Rattle.archive_forms_values.specs.Parts.{HasValue};
-ghost use Rattle.cabinet_archived.specs.Documents.Node.{node_names, node_shape};
-ghost use Rattle.cabinet_archived.specs.Documents.Order.{ascend, is_below};
-ghost use Rattle.cabinet_archived.specs.Documents.Table.{item_keys};
-ghost use Rattle.cabinet_archived.specs.Documents.Walk.{Stop, Walks};
+ghost use Rattle.cabinet_documents.specs.Node.{node_names, node_shape};
+ghost use Rattle.cabinet_documents.specs.Order.{ascend, is_below};
+ghost use Rattle.cabinet_documents.specs.Table.{item_keys};
+ghost use Rattle.cabinet_documents.specs.Walk.{Stop, Walks};
 ghost use Rattle.cabinet_archives.specs.Cost.{Compares};
 ghost use Rattle.cabinet_archives.specs.Keyed.{KeyLeads, KeyLeadsNowhere, OfMap, knows_pairs};
 ghost use Rattle.cabinet_archives.specs.Ordered.{HasEntry, map_shape};
@@ -66,10 +66,5 @@ pub(crate) fn get_counted<'a>(
     ensures compares { Compares map.entry.bytes.now map.entry.pos key.now result.1.comparisons }
     ensures searches { result.1.strides ≡ 0 }
 {
-    let (node, comparisons) = OrderedMap::get_counted(map, &key);
-    let steps = Steps {
-        comparisons,
-        strides: 0,
-    };
-    (node, steps)
+    OrderedMap::get_counted(map, &key)
 }

@@ -1,8 +1,8 @@
 //! The pairs of a key and a node that hashed and kept maps have.
 ghost use Rattle.std.specs.Prelude.{◌≡◌, ◌==◌, false, MatchOption};
-ghost use Rattle.archive_forms_values.specs.FormsLaws.Text.{IsText};
+ghost use Rattle.archive_forms_laws.specs.Text.{IsText};
 ghost use Rattle.archive_forms_values.specs.Parts.{HasValue};
-ghost use Rattle.cabinet_archived.specs.Documents.Node.{pair_shape};
+ghost use Rattle.cabinet_documents.specs.Node.{pair_shape};
 ghost use Rattle.cabinet_archives.specs.Keyed.{SaysKey, knows_pairs};
 
 use archive_forms_values::{ArchivedString, Entry};

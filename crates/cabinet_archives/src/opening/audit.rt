@@ -1,10 +1,10 @@
 //! The audit of an archived node: its first fault, where a node comes before the nodes in it, or its height.
 ghost use Rattle.std.specs.Prelude.{◌≡◌, ◌<◌, ◌≤◌, ◌+◌, ◌↔◌, IsTrue, IfOk, MatchResult, slice_index};
-ghost use Rattle.archive_shape.specs.ShapeLayout.Shape.Shape.{option, box, vector};
-ghost use Rattle.archive_shape.specs.ShapeLayout.Shape.Pointee.{sized};
-ghost use Rattle.archive_shape.specs.ShapeLayout.Content.Part.{at};
+ghost use Rattle.archive_shape_layout.specs.Shape.Shape.{option, box, vector};
+ghost use Rattle.archive_shape_layout.specs.Shape.Pointee.{sized};
+ghost use Rattle.archive_shape_layout.specs.Content.Part.{at};
 ghost use Rattle.archive_forms_values.specs.Parts.{HasValue};
-ghost use Rattle.cabinet_archived.specs.Documents.Node.{node_shape, whole_shape, KnowsNode};
+ghost use Rattle.cabinet_documents.specs.Node.{node_shape, whole_shape, KnowsNode};
 ghost use Rattle.cabinet_archives.specs.Keyed.{knows_pairs};
 ghost use Rattle.cabinet_archives.specs.Hashed.{table_shape};
 ghost use Rattle.cabinet_archives.specs.Kept.{index_shape};

@@ -1,12 +1,12 @@
 //! The check that bytes are the archive of a document.
 ghost use Rattle.std.specs.Prelude.{◌≡◌, length, OnOk, IfOk, IfErr};
-ghost use Rattle.archive_shape.specs.ShapeLayout.Holds.{root_position};
+ghost use Rattle.archive_shape_layout.specs.Holds.{root_position};
 ghost use Rattle.archive_core_validation.specs.Depth.{most_of};
 ghost use Rattle.archive_core_validation.specs.Access.{Decides};
-ghost use Rattle.cabinet_text_nodes.specs.TextGrammar.Tree.{Tree};
-ghost use Rattle.cabinet_archived.specs.Documents.Node.{node_shape, node_names};
-ghost use Rattle.cabinet_archived.specs.Documents.Accepted.{Accepted};
-ghost use Rattle.cabinet_archived.specs.Documents.Audit.{IsRefusedFor};
+ghost use Rattle.cabinet_text_grammar.specs.Tree.{Tree};
+ghost use Rattle.cabinet_documents.specs.Node.{node_shape, node_names};
+ghost use Rattle.cabinet_documents.specs.Accepted.{Accepted};
+ghost use Rattle.cabinet_documents.specs.Audit.{IsRefusedFor};
 ghost use Rattle.cabinet_archives.specs.Refused.{refusal_of};
 
 use crate::opening::audit::audit;
@@ -16,7 +16,7 @@ use archive_core_validation::{
 };
 use archive_hash_probing::{Group, Scan};
 use archive_shape::Ref;
-use archive_shape_writing::Error;
+use archive_shape_layout::Error;
 use cabinet_archived::ArchivedNode;
 use std::alloc::Global;
 use std::collections::BTreeMap;

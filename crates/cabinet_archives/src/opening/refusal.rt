@@ -1,7 +1,7 @@
 //! Why bytes are not opened as the archive of a document.
 ghost use Rattle.cabinet_archives.specs.Refused.{IsRefusalFor};
 
-use archive_shape_writing::Error;
+use archive_shape_layout::Error;
 use thiserror::Error as Described;
 
 /// Why bytes are not opened as an archive.

@@ -1,11 +1,11 @@
 //! Saving a document as an archive, in memory and to a writer.
 ghost use Rattle.std.specs.Prelude.{◌≡◌, ◌-◌, ◌^◌, ◌<◌, ℕ, List, IsTrue, IfOk, IfErr, OnOk, OnErr};
-ghost use Rattle.archive_shape_writing.specs.Writing.{Cut};
-ghost use Rattle.cabinet_archived.specs.Documents.Image.{Image};
+ghost use Rattle.archive_shape_layout.specs.Writing.{Cut};
+ghost use Rattle.cabinet_documents.specs.Image.{Image};
 ghost use Rattle.cabinet_archives.specs.Saving.{HasNoImageFor, Saved, IsUnsavedFor};
 
 use archive_core_serializing::Serializer;
-use archive_shape_writing::{Error, Writer};
+use archive_shape_layout::{Error, Writer};
 use cabinet_archived::{NodeIn, NodeShare, serialize_root};
 use cabinet_text_nodes::Document;
 use std::alloc::Global;

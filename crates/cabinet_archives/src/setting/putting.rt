@@ -1,8 +1,8 @@
 //! Writing a leaf in the place of a node, in the bytes of an archive.
 ghost use Rattle.std.specs.Prelude.{◌≡◌};
 ghost use Rattle.archive_forms_values.specs.Parts.{HasValue};
-ghost use Rattle.cabinet_text_nodes.specs.TextGrammar.Answering.{outcome_there};
-ghost use Rattle.cabinet_archived.specs.Documents.Node.{node_shape, KnowsNode};
+ghost use Rattle.cabinet_text_grammar.specs.Answering.{outcome_there};
+ghost use Rattle.cabinet_documents.specs.Node.{node_shape, KnowsNode};
 ghost use Rattle.cabinet_text_nodes.specs.Outcomes.{outcome_of};
 ghost use Rattle.cabinet_text_nodes.specs.View.{lent_leaf};
 ghost use Rattle.cabinet_archives.specs.Found.{OfDocument};

@@ -1,10 +1,10 @@
 //! Setting the leaf at a path, in the bytes of an archive.
 ghost use Rattle.std.specs.Prelude.{◌≡◌};
-ghost use Rattle.cabinet_text_nodes.specs.TextGrammar.Tree.{Tree, IsLeaf};
-ghost use Rattle.cabinet_text_nodes.specs.TextGrammar.Line as line;
-ghost use Rattle.cabinet_text_nodes.specs.TextGrammar.Answering.{answer, change};
-ghost use Rattle.cabinet_archived.specs.Documents.Accepted.{Accepted};
-ghost use Rattle.cabinet_archived.specs.Documents.Image.{Image};
+ghost use Rattle.cabinet_text_grammar.specs.Tree.{Tree, IsLeaf};
+ghost use Rattle.cabinet_text_grammar.specs.Line as line;
+ghost use Rattle.cabinet_text_grammar.specs.Answering.{answer, change};
+ghost use Rattle.cabinet_documents.specs.Accepted.{Accepted};
+ghost use Rattle.cabinet_documents.specs.Image.{Image};
 ghost use Rattle.cabinet_text_nodes.specs.Outcomes.{outcome_of};
 ghost use Rattle.cabinet_text_nodes.specs.View.{leaf_of, path_of};
 ghost use Rattle.cabinet_archives.specs.Setting.{EditLeaves};

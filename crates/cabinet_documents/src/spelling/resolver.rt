@@ -3,7 +3,7 @@ use archive_btree_maps::BTreeMapResolver;
 use archive_forms_rc::RcResolver;
 use archive_forms_values::{BoxResolver, StringResolver, VecResolver};
 use archive_hash_maps::HashTableResolver;
-use archive_index_spelling::IndexMapResolver;
+use archive_hash_writing::index::IndexMapResolver;
 
 /// The position of the data that a node points to, by its kind; it is known once the data is written.
 #[derive(Clone, Copy, Debug, PartialEq, Eq)]

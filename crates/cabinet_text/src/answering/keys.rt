@@ -1,11 +1,11 @@
 //! Writes the keys of maps.
 ghost use Rattle.std.specs.Prelude.{◌≡◌, ◌-◌, ◌^◌, ◌<◌, [], length};
 ghost use Rattle.std.specs.List.{filter};
-ghost use Rattle.archive_shape_writing.specs.Writing.{Writes};
+ghost use Rattle.archive_shape_layout.specs.Writing.{Writes};
 ghost use Rattle.cabinet_text_grammar.specs.Answering.{keys_in, keys_are, lies_within, spelled_keys, spelled_answer};
 ghost use Rattle.cabinet_text_nodes.specs.View.{node_pairs};
 
-use archive_shape_writing::{Error, Writer};
+use archive_shape_layout::{Error, Writer};
 use cabinet_text_nodes::{Node, write_key, write_keys_head};
 use std::collections::BTreeMap;
 

@@ -1,6 +1,6 @@
 //! Answers questions about documents.
 ghost use Rattle.std.specs.Prelude.{◌≡◌, ◌-◌, ◌^◌, ◌<◌, ◌++◌, List, IfOk, codes};
-ghost use Rattle.archive_shape_writing.specs.Writing.{Writes};
+ghost use Rattle.archive_shape_layout.specs.Writing.{Writes};
 ghost use Rattle.cabinet_text_grammar.specs.Tree.{Tree};
 ghost use Rattle.cabinet_text_grammar.specs.Answering as grammar;
 ghost use Rattle.cabinet_text_grammar.specs.Answering.{spelled_answer, keys_of, keys_within};
@@ -9,7 +9,7 @@ ghost use Rattle.cabinet_text_nodes.specs.Lines.{IsQuestion};
 ghost use Rattle.cabinet_text_nodes.specs.View.{node_tree, line_of};
 
 use crate::answering::keys::{write_kept_keys, write_keys, write_keys_within};
-use archive_shape_writing::{Error, Writer};
+use archive_shape_layout::{Error, Writer};
 use cabinet_text_nodes::{Asked, Document, Line, Node, answer_missing, answer_wrong, write_head};
 
 /// Writes the head of a node.

@@ -1,7 +1,7 @@
 //! Writes the lines of answers, and the parts of answers that list keys.
 ghost use Rattle.std.specs.Prelude.{◌-◌, ◌^◌, ◌<◌, ◌++◌, [], ◌∷◌, IfOk, codes};
 ghost use Rattle.std.specs.Fmt.{decimal};
-ghost use Rattle.archive_shape_writing.specs.Writing.{Writes};
+ghost use Rattle.archive_shape_layout.specs.Writing.{Writes};
 ghost use Rattle.cabinet_text_grammar.specs.Answering.{spelled_answer, wrong, missing, bad};
 ghost use Rattle.cabinet_text_grammar.specs.Item.{key_item};
 ghost use Rattle.cabinet_text_grammar.specs.Spelling.{spelled};
@@ -9,7 +9,7 @@ ghost use Rattle.cabinet_text_nodes.specs.Answers.{Tells};
 ghost use Rattle.cabinet_text_nodes.specs.Outcomes.{outcome_of};
 
 use crate::answer::{Asked, SetAnswer};
-use archive_shape_writing::{Error, Writer, write_two_pieces};
+use archive_shape_layout::{Error, Writer, write_two_pieces};
 use cabinet_text_bytes::{Decimal, write_escaped};
 
 /// Writes the beginning of an answer that lists `count` keys.

@@ -1,16 +1,14 @@
 //! Writes texts of documents: the lines of the wholes, and after them those of the root.
-ghost use Rattle.std.specs.Prelude.{◌≡◌, ◌-◌, ◌^◌, ◌<◌, ◌++◌, List, [], ◌∷◌, map, length, IsTrue, IfOk, codes};
-ghost use Rattle.archive_shape_writing.specs.Writing.{Writes};
-ghost use Rattle.cabinet_text_grammar.specs.Item.{key_item, items, items_of, items_of_pairs, items_of_table, header};
-ghost use Rattle.cabinet_text_grammar.specs.Spelling.{spelled, lines_of, ended, text_of};
-ghost use Rattle.cabinet_text_grammar.specs.Tree.{Tree};
-ghost use Rattle.cabinet_text_grammar.specs.Wholes.{IsTable};
-ghost use Rattle.cabinet_text_nodes.specs.View.{node_tree, node_trees, node_pairs, table_of, known_below, all_known};
+ghost use Rattle.std.specs.Prelude.{◌≡◌, ◌-◌, ◌^◌, ◌<◌, IfOk};
+ghost use Rattle.archive_shape_layout.specs.Writing.{Writes};
+ghost use Rattle.cabinet_text_grammar.specs.Item.{header};
+ghost use Rattle.cabinet_text_grammar.specs.Spelling.{lines_of, ended, text_of};
+ghost use Rattle.cabinet_text_nodes.specs.Calls.{WritesNode, WritesNodes, WritesPair, WritesPairs, WritesWholes};
 
 use crate::document::Document;
 use crate::node::Node;
 use crate::writing::head::{write_head, write_key_line, write_whole_line, write_wholes_line};
-use archive_shape_writing::{Error, Writer};
+use archive_shape_layout::{Error, Writer};
 use std::collections::BTreeMap;
 
 /// Writes the lines of a node. A whole has only the line of its number.
@@ -18,8 +16,7 @@ use std::collections::BTreeMap;
 pub fn write_node<W: Writer>(node: &Node, writer: &mut W) -> Result<(), Error>
     requires { W.failures writer.old < 2 ^ 64 - 1 }
     ensures quiet { IfOk result (λ _. W.failures writer.new ≡ W.failures writer.old) }
-    ensures lines { (table : List Tree) → IsTable table → IsTrue (known_below (length table) node.now)
-        → Writes W.Writer writer.old writer.new (ended (lines_of (items table (node_tree table node.now)))) result }
+    ensures lines { WritesNode W.Writer writer.old writer.new node.now result }
 {
     if let Node::Whole(number) = node {
         return write_whole_line(*number, writer);
@@ -42,9 +39,7 @@ pub fn write_node<W: Writer>(node: &Node, writer: &mut W) -> Result<(), Error>
 fn write_nodes<W: Writer>(nodes: &[Node], writer: &mut W) -> Result<(), Error>
     requires { W.failures writer.old < 2 ^ 64 - 1 }
     ensures quiet { IfOk result (λ _. W.failures writer.new ≡ W.failures writer.old) }
-    ensures lines { (table : List Tree) → IsTable table → IsTrue (all_known (length table) nodes.now)
-        → Writes W.Writer writer.old writer.new
-        (ended (lines_of (items_of table (node_trees table nodes.now)))) result }
+    ensures lines { WritesNodes W.Writer writer.old writer.new nodes.now result }
 {
     for node in nodes {
         write_node(node, writer)?;
@@ -57,9 +52,7 @@ fn write_nodes<W: Writer>(nodes: &[Node], writer: &mut W) -> Result<(), Error>
 fn write_pair<W: Writer>(key: &str, value: &Node, writer: &mut W) -> Result<(), Error>
     requires { W.failures writer.old < 2 ^ 64 - 1 }
     ensures quiet { IfOk result (λ _. W.failures writer.new ≡ W.failures writer.old) }
-    ensures lines { (table : List Tree) → IsTable table → IsTrue (known_below (length table) value.now)
-        → Writes W.Writer writer.old writer.new ((spelled (key_item key.now) ++ codes "\n")
-        ++ ended (lines_of (items table (node_tree table value.now)))) result }
+    ensures lines { WritesPair W.Writer writer.old writer.new key.now value.now result }
 {
     write_key_line(key, writer)?;
     write_node(value, writer)
@@ -70,10 +63,7 @@ fn write_pair<W: Writer>(key: &str, value: &Node, writer: &mut W) -> Result<(), 
 fn write_map<W: Writer>(pairs: &BTreeMap<String, Node>, writer: &mut W) -> Result<(), Error>
     requires { W.failures writer.old < 2 ^ 64 - 1 }
     ensures quiet { IfOk result (λ _. W.failures writer.new ≡ W.failures writer.old) }
-    ensures lines { (table : List Tree) → IsTable table
-        → IsTrue (all_known (length table) (map (λ p. p.1) pairs.now.entries))
-        → Writes W.Writer writer.old writer.new
-        (ended (lines_of (items_of_pairs table (node_pairs table pairs.now.entries)))) result }
+    ensures lines { WritesPairs W.Writer writer.old writer.new pairs.now.entries result }
 {
     for (key, node) in pairs {
         write_pair(key.as_str(), node, writer)?;
@@ -86,9 +76,7 @@ fn write_map<W: Writer>(pairs: &BTreeMap<String, Node>, writer: &mut W) -> Resul
 fn write_pairs<W: Writer>(pairs: &[(String, Node)], writer: &mut W) -> Result<(), Error>
     requires { W.failures writer.old < 2 ^ 64 - 1 }
     ensures quiet { IfOk result (λ _. W.failures writer.new ≡ W.failures writer.old) }
-    ensures lines { (table : List Tree) → IsTable table → IsTrue (all_known (length table) (map (λ p. p.1) pairs.now))
-        → Writes W.Writer writer.old writer.new
-        (ended (lines_of (items_of_pairs table (node_pairs table pairs.now)))) result }
+    ensures lines { WritesPairs W.Writer writer.old writer.new pairs.now result }
 {
     for (key, node) in pairs {
         write_pair(key.as_str(), node, writer)?;
@@ -110,8 +98,7 @@ fn write_header<W: Writer>(count: u64, writer: &mut W) -> Result<(), Error>
 /// Writes the lines of the trees of the wholes, by ascending numbers.
 fn write_wholes<W: Writer>(wholes: &[Node], writer: &mut W) -> Result<(), Error>
     requires { W.failures writer.old < 2 ^ 64 - 1 }
-    ensures { IsTable (table_of wholes.now) → Writes W.Writer writer.old writer.new
-        (ended (lines_of (items_of_table (table_of wholes.now)))) result }
+    ensures { WritesWholes W.Writer writer.old writer.new wholes.now result }
 {
     write_nodes(wholes, writer)
 }

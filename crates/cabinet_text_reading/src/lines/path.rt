@@ -1,9 +1,10 @@
 //! Reads paths of lines: whether bytes are a path, and its steps.
-ghost use Rattle.std.specs.Prelude.{◌≡◌, ◌++◌, [], All, MatchOption, IfOk, IfErr, codes};
+ghost use Rattle.std.specs.Prelude.{◌≡◌, All, IfOk, IfErr};
 ghost use Rattle.std.specs.Bool.{OnTrue, OnFalse};
 ghost use Rattle.cabinet_text_grammar.specs.Line.{IsStep, spelled_step, spelled_path};
 ghost use Rattle.cabinet_text_nodes.specs.View.{step_of, path_of};
-ghost use Rattle.cabinet_text_reading.specs.Parts.{IsPath, IsSpelledStep, BeginsWithWord, BeginsByKey, RefusesPath, RefusesStep, RefusesSteps, PlaceFits, lent_step};
+ghost use Rattle.cabinet_text_reading.specs.Calls.Paths.{ReadsStep, ReadsFirstStep, ReadsFirstKey};
+ghost use Rattle.cabinet_text_reading.specs.Parts.{IsPath, IsSpelledStep, RefusesPath, RefusesStep, RefusesSteps, PlaceFits, lent_step};
 
 use crate::lines::leaf::read_argument;
 use cabinet_text_bytes::{after_prefix, is_escaped, read_count, split_word};
@@ -20,7 +21,7 @@ enum StepRef<'a> {
 
 /// Reads a word as a step.
 fn read_step(word: &[u8]) -> Option<StepRef<'_>>
-    ensures { MatchOption result (IsSpelledStep word.now → ⊥) (λ step. PlaceFits step × (word.now ≡ lent_step step)) }
+    ensures { ReadsStep word.now result }
 {
     if word == b"?".as_slice() {
         return Some(StepRef::Inside);
@@ -39,8 +40,7 @@ fn read_step(word: &[u8]) -> Option<StepRef<'_>>
 
 /// Returns the first step of a path, and the bytes after it.
 fn next_step(path: &[u8]) -> Option<(StepRef<'_>, &[u8])>
-    ensures { MatchOption result (IsPath path.now
-        → path.now ≡ []) (λ p. PlaceFits p.0 × BeginsWithWord path.now (lent_step p.0) p.1.now) }
+    ensures { ReadsFirstStep path.now result }
 {
     let Some(spaced) = after_prefix(path, b" ".as_slice()) else {
         return None;
@@ -54,8 +54,7 @@ fn next_step(path: &[u8]) -> Option<(StepRef<'_>, &[u8])>
 
 /// Returns the bytes of the key that a path begins with, and the bytes after it. Those of the key are not checked.
 pub(crate) fn next_key(path: &[u8]) -> Option<(&[u8], &[u8])>
-    ensures { MatchOption result (BeginsByKey path.now
-        → ⊥) (λ p. BeginsWithWord path.now (codes "'" ++ p.0.now) p.1.now) }
+    ensures { ReadsFirstKey path.now result }
 {
     let Some((step, rest)) = next_step(path) else {
         return None;

@@ -1,9 +1,10 @@
 //! Reads keys of maps whose keys ascend: each is checked before memory is allocated for it.
-ghost use Rattle.std.specs.Prelude.{◌≡◌, MatchOption, IfOk, IfErr, string_bytes};
+ghost use Rattle.std.specs.Prelude.{◌≡◌, IfOk, IfErr, string_bytes};
 ghost use Rattle.cabinet_text_bytes.specs.Words.{IsEscaped};
 ghost use Rattle.cabinet_text_grammar.specs.Keys.{ordered};
 ghost use Rattle.cabinet_text_grammar.specs.Spelling.{escaped};
 ghost use Rattle.cabinet_text_grammar.specs.declared.cause.Cause.TheVariants.{KeyOrder};
+ghost use Rattle.cabinet_text_reading.specs.Calls.Stack.{FindsOrderFault};
 ghost use Rattle.cabinet_text_reading.specs.Told.{IsKeyAfter, RefusesKey};
 
 use crate::stack::key::cmp_escaped;
@@ -16,8 +17,7 @@ use std::collections::BTreeMap;
 /// Returns the fault of a key after the ascending keys of a map. `argument` is the key's escaped form.
 fn order_fault(pairs: &BTreeMap<String, Node>, argument: &[u8]) -> Option<Cause>
     requires { IsEscaped argument.now }
-    ensures { MatchOption result (IsKeyAfter ordered pairs.now.entries argument.now)
-        (λ cause. (cause ≡ KeyOrder) × (IsKeyAfter ordered pairs.now.entries argument.now → ⊥)) }
+    ensures { FindsOrderFault pairs.now.entries argument.now result }
 {
     let (last, _) = pairs.last_key_value()?;
     if cmp_escaped(argument, last.as_bytes()).is_gt() {

@@ -1,11 +1,10 @@
 //! Finds whether a head completes the tree that is read.
-ghost use Rattle.std.specs.Prelude.{◌≡◌, ℕ, suc, List};
+ghost use Rattle.std.specs.Prelude.{◌≡◌, suc, List};
 ghost use Rattle.std.specs.Bool.{Decides};
 ghost use Rattle.cabinet_text_grammar.specs.Tree.{Tree};
-ghost use Rattle.cabinet_text_grammar.specs.Machine.{complete, step};
-ghost use Rattle.cabinet_text_grammar.specs.Due.{AdmitsHead};
 ghost use Rattle.cabinet_text_nodes.specs.View.{item_of};
 ghost use Rattle.cabinet_text_grammar.specs.Completing.{LacksOne, AllLackOne, EndsAlone};
+ghost use Rattle.cabinet_text_reading.specs.Calls.Stack.{TellsComplete};
 ghost use Rattle.cabinet_text_reading.specs.View.{frame_of, stack_of};
 
 use crate::stack::frame::Frame;
@@ -56,8 +55,7 @@ fn ends_alone(head: &Head) -> bool
 
 /// Returns whether a head completes the tree that is read.
 pub(crate) fn completes(head: &Head, stack: &[Frame<'_>]) -> bool
-    ensures { (table : List Tree) (depth : ℕ) → AdmitsHead table depth (item_of head.now)
-        → Decides result ((t : Tree) × (step table (stack_of table stack.now) (item_of head.now) ≡ complete t)) }
+    ensures { TellsComplete head.now stack.now result }
 {
     ends_alone(head) && all_lack_one(stack)
 }

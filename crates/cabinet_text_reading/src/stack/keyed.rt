@@ -1,10 +1,7 @@
 //! The pairs of a map up to now, and the key of the next pair.
-ghost use Rattle.std.specs.Prelude.{length, ◌≡◌, ◌++◌, List, [], ◌∷◌, IfOk, string_bytes};
-ghost use Rattle.cabinet_text_grammar.specs.Frame.{keys_after};
-ghost use Rattle.cabinet_text_grammar.specs.Keys.{MayFollow};
-ghost use Rattle.cabinet_text_grammar.specs.Tree.{Tree, ArePairs};
-ghost use Rattle.cabinet_text_nodes.specs.View.{node_pairs};
-ghost use Rattle.cabinet_text_reading.specs.View.{kind_of, entries_of, keyed_kind, keyed_entries, key_of};
+ghost use Rattle.std.specs.Prelude.{length, ◌≡◌, IfOk};
+ghost use Rattle.cabinet_text_reading.specs.Calls.Stack.{AddsPair};
+ghost use Rattle.cabinet_text_reading.specs.View.{kind_of, keyed_kind, keyed_entries};
 
 use crate::stack::kept::KeptKeyed;
 use crate::stack::pairs::Pairs;
@@ -35,12 +32,7 @@ impl<'a> Keyed<'a> {
     /// Adds the node of the key, which completes the next pair.
     pub fn with_node(self, node: Node) -> Result<Pairs<'a>, AllocError>
         ensures kind { IfOk result (λ pairs. kind_of pairs ≡ keyed_kind self.entry) }
-        ensures pairs { (table : List Tree) → ArePairs (keyed_kind self.entry) []
-            (node_pairs table (keyed_entries self.entry))
-            → MayFollow (keyed_kind self.entry) (keys_after [] (node_pairs table (keyed_entries self.entry)))
-            (string_bytes (key_of self.entry))
-            → IfOk result (λ pairs. entries_of pairs
-            ≡ keyed_entries self.entry ++ (key_of self.entry, node) ∷ []) }
+        ensures pairs { AddsPair self.entry node result }
     {
         match self {
             Keyed::Ordered(mut pairs, key) => {

@@ -1,13 +1,9 @@
 //! The pairs of a map up to now.
-ghost use Rattle.std.specs.Prelude.{◌≡◌, Some, List, length, IfOk, IfErr, string_bytes};
+ghost use Rattle.std.specs.Prelude.{◌≡◌, Some, length, IfOk, IfErr, string_bytes};
 ghost use Rattle.cabinet_text_bytes.specs.Words.{IsEscaped};
-ghost use Rattle.cabinet_text_grammar.specs.Due.{Admits};
-ghost use Rattle.cabinet_text_grammar.specs.Fault.{HasDueCause};
-ghost use Rattle.cabinet_text_grammar.specs.Item.{key_item};
 ghost use Rattle.cabinet_text_grammar.specs.Spelling.{escaped};
-ghost use Rattle.cabinet_text_grammar.specs.Tree.{Tree, map};
-ghost use Rattle.cabinet_text_nodes.specs.View.{node_tree, node_pairs};
-ghost use Rattle.cabinet_text_reading.specs.Causes.{IsFirstOf};
+ghost use Rattle.cabinet_text_reading.specs.Causes.{IsFaultAt};
+ghost use Rattle.cabinet_text_reading.specs.Calls.Stack.{AllowsKey, IsMapOf};
 ghost use Rattle.cabinet_text_reading.specs.Told.{key_line};
 ghost use Rattle.cabinet_text_reading.specs.View.{kind_of, entries_of, key_due, keyed_kind, keyed_entries, key_of};
 
@@ -45,10 +41,8 @@ impl<'a> Pairs<'a> {
         ensures kind { IfOk result (λ keyed. keyed_kind keyed ≡ kind_of self.entry) }
         ensures pairs { IfOk result (λ keyed. keyed_entries keyed ≡ entries_of self.entry) }
         ensures key { IfOk result (λ keyed. argument.now ≡ escaped (string_bytes (key_of keyed))) }
-        ensures admitted { IfOk result (λ keyed. Admits (key_due self.entry)
-            (key_item (string_bytes (key_of keyed)))) }
-        ensures fault { IfErr result (IsFirstOf (HasDueCause (key_due self.entry)
-            (Some (key_line argument.now)))) }
+        ensures admitted { IfOk result (AllowsKey self.entry) }
+        ensures fault { IfErr result (IsFaultAt (key_due self.entry) (Some (key_line argument.now))) }
     {
         match self {
             Pairs::Ordered(pairs) => {
@@ -65,8 +59,7 @@ impl<'a> Pairs<'a> {
 
     /// Returns the map that has exactly these pairs.
     pub fn into_node(self) -> Node
-        ensures { (table : List Tree) → node_tree table result ≡ map (kind_of self.entry)
-            (node_pairs table (entries_of self.entry)) }
+        ensures { IsMapOf self.entry result }
     {
         match self {
             Pairs::Ordered(pairs) => Node::Ordered(pairs),

@@ -1,18 +1,14 @@
 //! Takes heads and keys into the innermost container.
-ghost use Rattle.std.specs.Prelude.{◌≡◌, ℕ, ◌<◌, List, [], Some, IfOk, IfErr, OnErr, string_bytes, vec_len};
+ghost use Rattle.std.specs.Prelude.{◌≡◌, ◌<◌, List, [], Some, IfOk, IfErr, OnErr, vec_len};
 ghost use Rattle.cabinet_text_bytes.specs.Words.{IsEscaped};
-ghost use Rattle.cabinet_text_grammar.specs.Due.{AdmitsHead, Admits};
-ghost use Rattle.cabinet_text_grammar.specs.Fault.{HasDueCause};
-ghost use Rattle.cabinet_text_grammar.specs.Frame.{AreOpen};
-ghost use Rattle.cabinet_text_grammar.specs.Item.{key_item, some_item, list_item, map_item};
+ghost use Rattle.cabinet_text_grammar.specs.Item.{some_item, list_item, map_item};
 ghost use Rattle.cabinet_text_grammar.specs.Memory.{TakesMemory};
-ghost use Rattle.cabinet_text_grammar.specs.Spelling.{escaped};
 ghost use Rattle.cabinet_text_grammar.specs.Tree.{Tree};
-ghost use Rattle.cabinet_text_grammar.specs.Machine.{going, plug, step};
-ghost use Rattle.cabinet_text_nodes.specs.View.{node_tree, item_of};
-ghost use Rattle.cabinet_text_reading.specs.Causes.{IsFirstOf};
+ghost use Rattle.cabinet_text_nodes.specs.View.{item_of};
+ghost use Rattle.cabinet_text_reading.specs.Causes.{IsFaultAt};
+ghost use Rattle.cabinet_text_reading.specs.Calls.Stack.{PutsIn, TakesUnder, TakesItem, TakesHead, TakesKey};
 ghost use Rattle.cabinet_text_reading.specs.Told.{key_line};
-ghost use Rattle.cabinet_text_reading.specs.View.{kind_of, entries_of, key_due, stack_of, inside_map, state_of};
+ghost use Rattle.cabinet_text_reading.specs.View.{kind_of, entries_of, key_due};
 
 use crate::stack::due::{Due, Next};
 use crate::stack::frame::{Frame, OpenMap};
@@ -30,9 +26,7 @@ fn close_with<'a>(
     complete: Node,
     stack: &mut Vec<Frame<'a>>,
 ) -> Result<Next<'a>, AllocError>
-    ensures { (table : List Tree) (around : ℕ) → AreOpen table around (stack_of table stack.old.items)
-        → IfOk result (λ next. state_of table next stack.new.items
-        ≡ plug (node_tree table complete) (stack_of table stack.old.items)) }
+    ensures { PutsIn complete stack.old result stack.new }
 {
     let mut node = complete;
     while let Some(frame) = stack.pop() {
@@ -69,9 +63,7 @@ fn put_in<'a>(
     complete: Node,
     stack: &mut Vec<Frame<'a>>,
 ) -> Result<Next<'a>, AllocError>
-    ensures next { (table : List Tree) (around : ℕ) → AreOpen table around (stack_of table stack.old.items)
-        → IfOk result (λ next. state_of table next stack.new.items
-        ≡ plug (node_tree table complete) (stack_of table stack.old.items)) }
+    ensures next { PutsIn complete stack.old result stack.new }
     ensures memory { OnErr result (0 < vec_len stack.old) }
 {
     let Some(frame) = stack.last_mut() else {
@@ -92,10 +84,7 @@ pub fn take_head<'a>(
     head: Head,
     stack: &mut Vec<Frame<'a>>,
 ) -> Result<Next<'a>, AllocError>
-    ensures next { (table : List Tree) (around depth : ℕ)
-        → AreOpen table around (stack_of table stack.old.items) → AdmitsHead table depth (item_of head)
-        → IfOk result (λ next. state_of table next stack.new.items
-        ≡ step table (stack_of table stack.old.items) (item_of head)) }
+    ensures next { TakesHead head stack.old result stack.new }
     ensures memory { OnErr result (TakesMemory (vec_len stack.old) (item_of head)) }
 {
     match head {
@@ -115,8 +104,7 @@ pub fn take_head<'a>(
 
 /// Opens an option that has a node.
 fn open_option<'a>(stack: &mut Vec<Frame<'a>>) -> Result<Next<'a>, AllocError>
-    ensures { (table : List Tree) → IfOk result (λ next. state_of table next stack.new.items
-        ≡ step table (stack_of table stack.old.items) some_item) }
+    ensures { (table : List Tree) → TakesUnder table some_item stack.old result stack.new }
 {
     stack.push(Frame::Maybe)?;
     Ok(Next::Due(Due::Head))
@@ -128,9 +116,7 @@ fn open_list<'a>(
     count: u64,
     stack: &mut Vec<Frame<'a>>,
 ) -> Result<Next<'a>, AllocError>
-    ensures next { (table : List Tree) (around : ℕ) → AreOpen table around (stack_of table stack.old.items)
-        → IfOk result (λ next. state_of table next stack.new.items
-        ≡ step table (stack_of table stack.old.items) (list_item count)) }
+    ensures next { TakesItem (list_item count) stack.old result stack.new }
     ensures memory { OnErr result (TakesMemory (vec_len stack.old) (list_item count)) }
 {
     let nodes = Vec::new(alloc);
@@ -149,9 +135,7 @@ fn open_map<'a>(
     stack: &mut Vec<Frame<'a>>,
 ) -> Result<Next<'a>, AllocError>
     requires { entries_of pairs ≡ [] }
-    ensures next { (table : List Tree) (around : ℕ) → AreOpen table around (stack_of table stack.old.items)
-        → IfOk result (λ next. state_of table next stack.new.items
-        ≡ step table (stack_of table stack.old.items) (map_item (kind_of pairs.entry) count)) }
+    ensures next { TakesItem (map_item (kind_of pairs.entry) count) stack.old result stack.new }
     ensures memory { OnErr result ((count ≡ 0) × (0 < vec_len stack.old)) }
 {
     if count == 0 {
@@ -169,12 +153,8 @@ pub fn take_key<'a>(
     stack: &mut Vec<Frame<'a>>,
 ) -> Result<(), Cause>
     requires { IsEscaped argument.now }
-    ensures taken { IfOk result (λ _. (k : List ℕ) × (argument.now ≡ escaped k)
-        × Admits (key_due map.entry.pairs) (key_item k)
-        × ((table : List Tree) → going (stack_of table stack.new.items)
-        ≡ step table (inside_map table map.entry stack.old.items) (key_item k))) }
-    ensures fault { IfErr result (IsFirstOf (HasDueCause (key_due map.entry.pairs)
-        (Some (key_line argument.now)))) }
+    ensures taken { IfOk result (λ _. TakesKey map.entry argument.now stack.old stack.new) }
+    ensures fault { IfErr result (IsFaultAt (key_due map.entry.pairs) (Some (key_line argument.now))) }
 {
     let OpenMap { count, pairs } = map;
     let pairs = pairs.with_key(alloc, argument)?;

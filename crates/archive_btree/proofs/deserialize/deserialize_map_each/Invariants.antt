@@ -1,6 +1,6 @@
 use Rattle.std.proofs.Common.{◌≡◌, List, map, length}
-use Rattle.archive_btree_spelling.specs.BtreeLayout.Reading.{Place}
-use Rattle.archive_btree_walking.specs.Refs.{entry_at}
+use Rattle.archive_btree_layout.specs.Reading.{Place}
+use Rattle.archive_btree_maps.specs.Refs.{entry_at}
 use Rattle.archive_btree.proofs.ReadBack.{IsReading}
 use Rattle.archive_btree.proofs.deserialize.deserialize_map_each.Given as goal
 

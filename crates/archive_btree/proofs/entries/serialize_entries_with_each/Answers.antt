@@ -1,8 +1,8 @@
 use Rattle.std.proofs.Common.{arith, List, All, length, ap, sym, subst}
-use Rattle.archive_shape_writing.specs.Writing.{WriterMembers}
+use Rattle.archive_shape_layout.specs.Writing.{WriterMembers}
 use Rattle.archive_forms_laws.specs.Serializing.{Serializes}
-use Rattle.archive_forms_borrowed.specs.EntrySteps.{PartsWritten}
-use Rattle.archive_forms_borrowed.proofs.Parts.{parts_written}
+use Rattle.archive_forms_writing.specs.EntrySteps.{PartsWritten}
+use Rattle.archive_forms_writing.proofs.Parts.{parts_written}
 use Rattle.archive_btree.specs.Owned.{entries_spelling}
 use Rattle.archive_btree.proofs.Listed.{takes_entries}
 use Rattle.archive_btree.proofs.entries.serialize_entries_with_each.Goals as goal

@@ -1,12 +1,12 @@
 use Rattle.std.proofs.Common.{rules, ◌≡◌, ◌∙◌, [], map, sym, ap}
 use Rattle.std.specs.Prelude.{⊤}
 use Rattle.std.specs.BTreeSet.{insert_key}
-use Rattle.archive_shape.specs.ShapeLayout.Shape.Shape.{tuple}
-use Rattle.archive_shape.specs.ShapeLayout.Shape.Shapes.{no_shapes}
+use Rattle.archive_shape_layout.specs.Shape.Shape.{tuple}
+use Rattle.archive_shape_layout.specs.Shape.Shapes.{no_shapes}
 use Rattle.archive_forms_laws.specs.Fields.{unit_spelling}
 use Rattle.archive_forms.specs.Reading.{reads_as}
 use Rattle.archive_btree.specs.Owned.{key_entries}
-use Rattle.archive_btree_walking.specs.Refs.{entry_at}
+use Rattle.archive_btree_maps.specs.Refs.{entry_at}
 use Rattle.archive_btree.proofs.ReadBack.{next_place, none_left, next_has, reading_begun, entry_read, reading_ended, reading_some}
 use Rattle.archive_btree.proofs.Keyed.{inserted_key, no_keys}
 use Rattle.archive_forms.proofs.Plain.{unit_read}

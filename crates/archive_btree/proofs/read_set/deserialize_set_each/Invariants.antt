@@ -1,12 +1,12 @@
 use Rattle.std.proofs.Common.{◌≡◌, List, map, length}
 use Rattle.std.specs.Prelude.{⊤}
-use Rattle.archive_shape.specs.ShapeLayout.Shape.Shape.{tuple}
-use Rattle.archive_shape.specs.ShapeLayout.Shape.Shapes.{no_shapes}
+use Rattle.archive_shape_layout.specs.Shape.Shape.{tuple}
+use Rattle.archive_shape_layout.specs.Shape.Shapes.{no_shapes}
 use Rattle.archive_forms_laws.specs.Fields.{unit_spelling}
 use Rattle.archive_forms.specs.Reading.{reads_as}
 use Rattle.archive_btree.specs.Owned.{key_entries}
-use Rattle.archive_btree_spelling.specs.BtreeLayout.Reading.{Place}
-use Rattle.archive_btree_walking.specs.Refs.{entry_at}
+use Rattle.archive_btree_layout.specs.Reading.{Place}
+use Rattle.archive_btree_maps.specs.Refs.{entry_at}
 use Rattle.archive_btree.proofs.ReadBack.{IsReading}
 use Rattle.archive_btree.proofs.read_set.deserialize_set_each.Given as goal
 

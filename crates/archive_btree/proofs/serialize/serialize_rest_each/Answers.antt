@@ -1,6 +1,6 @@
 use Rattle.std.proofs.Common.{ℕ, subst}
 use Rattle.std.specs.Map.Iter.{TakesFirst, deref_pair}
-use Rattle.archive_shape_writing.specs.Writing.{WriterMembers}
+use Rattle.archive_shape_layout.specs.Writing.{WriterMembers}
 use Rattle.archive_forms_laws.specs.Taking.{GivesAs}
 use Rattle.archive_btree_writing.specs.Built.{BuildsClaimedBy}
 use Rattle.archive_btree.proofs.Listed.{map_written}

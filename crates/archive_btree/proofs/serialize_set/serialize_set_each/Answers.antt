@@ -1,7 +1,7 @@
 use Rattle.std.proofs.Common.{List, All, sym, subst}
-use Rattle.archive_shape.specs.ShapeLayout.Shape.Shape.{tuple}
-use Rattle.archive_shape.specs.ShapeLayout.Shape.Shapes.{no_shapes}
-use Rattle.archive_shape_writing.specs.Writing.{WriterMembers}
+use Rattle.archive_shape_layout.specs.Shape.Shape.{tuple}
+use Rattle.archive_shape_layout.specs.Shape.Shapes.{no_shapes}
+use Rattle.archive_shape_layout.specs.Writing.{WriterMembers}
 use Rattle.archive_forms_laws.specs.Fields.{unit_spelling}
 use Rattle.archive_forms_laws.specs.Serializing.{Serializes}
 use Rattle.archive_btree.specs.Owned.{entries_spelling, key_entries}

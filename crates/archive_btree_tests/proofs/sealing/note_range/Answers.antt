@@ -1,6 +1,6 @@
 use Rattle.std.proofs.Common.{refl}
-use Rattle.archive_btree_walking.specs.Walks.{BegunMap}
-use Rattle.archive_btree_walking.proofs.Roots.{tree_of_value}
+use Rattle.archive_btree_maps.specs.Walks.{BegunMap}
+use Rattle.archive_btree_maps.proofs.Roots.{tree_of_value}
 use Rattle.archive_btree_tests.proofs.sealing.note_range.Goals as goal
 
 pub note_values-requires : goal.note_values-requires

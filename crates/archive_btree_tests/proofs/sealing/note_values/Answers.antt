@@ -1,5 +1,5 @@
 use Rattle.std.proofs.Common.{sym, subst}
-use Rattle.archive_btree_walking.specs.Walks.{IsWritten}
+use Rattle.archive_btree_maps.specs.Walks.{IsWritten}
 use Rattle.archive_btree_tests.proofs.sealing.note_values.Goals as goal
 
 pub loop-step-init : goal.loop-step-init

@@ -1,7 +1,7 @@
 use Rattle.std.proofs.Common.{List}
-use Rattle.archive_btree_walking.specs.BtreeLayout.Reading.{Place}
-use Rattle.archive_btree_walking.specs.Walks.{BegunMap, IsWritten}
-use Rattle.archive_btree_walking.specs.Cursors.{HasRange}
+use Rattle.archive_btree_layout.specs.Reading.{Place}
+use Rattle.archive_btree_maps.specs.Walks.{BegunMap, IsWritten}
+use Rattle.archive_btree_maps.specs.Cursors.{HasRange}
 use Rattle.archive_btree_tests.proofs.sealing.note_values.Given as goal
 
 abbrev pub invariant-loop-step : goal.invariant-loop-step

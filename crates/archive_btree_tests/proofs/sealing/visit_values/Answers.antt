@@ -1,7 +1,7 @@
 use Rattle.std.proofs.Common.{refl, ap, length, arith}
-use Rattle.archive_btree_walking.specs.BtreeLayout.Tree.{items}
-use Rattle.archive_btree_walking.specs.Walks.{BegunMap}
-use Rattle.archive_btree_walking.proofs.Roots.{tree_of_value}
+use Rattle.archive_btree_layout.specs.Tree.{items}
+use Rattle.archive_btree_maps.specs.Walks.{BegunMap}
+use Rattle.archive_btree_maps.proofs.Roots.{tree_of_value}
 use Rattle.archive_btree_tests.proofs.sealing.visit_values.Goals as goal
 
 pub loop-at-init : goal.loop-at-init

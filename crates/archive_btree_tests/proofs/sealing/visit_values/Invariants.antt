@@ -1,7 +1,7 @@
 use Rattle.std.proofs.Common.{List}
-use Rattle.archive_btree_walking.specs.BtreeLayout.Reading.{Place}
-use Rattle.archive_btree_walking.specs.Walks.{BegunMap, IsWritten}
-use Rattle.archive_btree_walking.specs.Cursors.{HasValues}
+use Rattle.archive_btree_layout.specs.Reading.{Place}
+use Rattle.archive_btree_maps.specs.Walks.{BegunMap, IsWritten}
+use Rattle.archive_btree_maps.specs.Cursors.{HasValues}
 use Rattle.archive_btree_tests.proofs.sealing.visit_values.Given as goal
 
 abbrev pub invariant-loop-at : goal.invariant-loop-at

@@ -1,5 +1,5 @@
 use Rattle.std.proofs.Common.{refl}
-use Rattle.archive_forms_values.specs.ShapeCanonical.FirstFit.{first_fit}
+use Rattle.archive_shape_canonical.specs.FirstFit.{first_fit}
 use Rattle.archive_btree_writing.specs.Nodes.{borrowed_entry}
 use Rattle.archive_btree_writing.proofs.Parts.{PartsLaid}
 use Rattle.archive_btree_writing.proofs.entries.resolve_keys.Given as goal

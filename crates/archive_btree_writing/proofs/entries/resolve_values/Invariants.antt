@@ -1,6 +1,6 @@
 use Rattle.std.proofs.Common.{refl}
-use Rattle.archive_forms_values.specs.ShapeCanonical.FirstFit.{first_fit}
-use Rattle.archive_forms_values.specs.FormsLaws.Spelling.{state_after}
+use Rattle.archive_shape_canonical.specs.FirstFit.{first_fit}
+use Rattle.archive_forms_laws.specs.Spelling.{state_after}
 use Rattle.archive_btree_writing.specs.Nodes.{borrowed, borrowed_entry}
 use Rattle.archive_btree_writing.proofs.Parts.{PartsLaid}
 use Rattle.archive_btree_writing.proofs.entries.resolve_values.Given as goal

@@ -1,10 +1,10 @@
 use Rattle.std.proofs.Common.{◌≡◌, arith, ◌<◌, ◌≤◌, ◌+◌, List, sym, ap, ◌∙◌, ◌∷◌, [], ◌++◌, subst, length, length-set, take, Err, refl, inl}
 use Rattle.std.proofs.lemmas.List.{length-replicate}
-use Rattle.archive_shape_writing.specs.Writing.{WriterMembers}
+use Rattle.archive_shape_layout.specs.Writing.{WriterMembers}
 use Rattle.archive_forms_writing.proofs.Loops.{Reached, next_of, none_left, reached_first, first_stopped, reached_next, reached_stopped, reached_all}
 use Rattle.archive_forms_writing.proofs.Arrays.{take_set, take_one}
 use Rattle.archive_btree_writing.specs.Nodes.{borrowed, borrowed_entry, node_of}
-use Rattle.archive_forms_values.specs.FormsLaws.Serializing.{of_data}
+use Rattle.archive_forms_laws.specs.Serializing.{of_data}
 use Rattle.archive_forms_writing.proofs.Laying.{stopped_before}
 use Rattle.archive_btree_writing.proofs.Sizes.{few_fit, few_within}
 use Rattle.archive_btree_writing.proofs.Placing.{Behind, data_stopped, node_laid}

@@ -1,6 +1,6 @@
 use Rattle.std.proofs.Common.{◌≡◌, ◌≤◌, length, take}
-use Rattle.archive_forms_values.specs.FormsLaws.State.{State}
-use Rattle.archive_forms_values.specs.FormsLaws.Serializing.{IsAt}
+use Rattle.archive_forms_laws.specs.State.{State}
+use Rattle.archive_forms_laws.specs.Serializing.{IsAt}
 use Rattle.archive_forms_writing.proofs.Loops.{Reached}
 use Rattle.archive_btree_writing.specs.Nodes.{borrowed_entry}
 use Rattle.archive_btree_writing.proofs.laying.write_node_each.Given as goal

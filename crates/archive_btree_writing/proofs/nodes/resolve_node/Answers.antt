@@ -1,6 +1,6 @@
 use Rattle.std.proofs.Common.{rules, arith, ◌*◌, length, refl}
-use Rattle.archive_shape.specs.ShapeLayout.Shape.{size_of}
-use Rattle.archive_forms_values.specs.ShapeCanonical.FirstFit.{first_fit}
+use Rattle.archive_shape_layout.specs.Shape.{size_of}
+use Rattle.archive_shape_canonical.specs.FirstFit.{first_fit}
 use Rattle.archive_btree_writing.specs.Nodes.{borrowed, words_size}
 use Rattle.archive_btree_writing.proofs.Answered.{answers_error}
 use Rattle.archive_btree_writing.proofs.Filling.{filled_length, filled_zero}

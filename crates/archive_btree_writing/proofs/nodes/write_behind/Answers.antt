@@ -1,5 +1,5 @@
 use Rattle.std.proofs.Common.{rules, arith}
-use Rattle.archive_shape_writing.specs.Writing.{WriterMembers}
+use Rattle.archive_shape_layout.specs.Writing.{WriterMembers}
 use Rattle.archive_btree_writing.specs.Nodes.{borrowed, node_of}
 use Rattle.archive_btree_writing.proofs.Answered.{answers_error}
 use Rattle.archive_btree_writing.proofs.Placing.{node_aligns, gap_failed, stands_at, node_far, node_stopped, node_written}

@@ -1,8 +1,8 @@
 use Rattle.std.proofs.Common.{arith, ◌≡◌, refl, inl, ap, ◌∙◌}
 use Rattle.std.proofs.lemmas.List.{take-replicate}
-use Rattle.archive_shape.specs.ShapeLayout.Content.{words_of, link_node_size}
+use Rattle.archive_shape_layout.specs.Content.{words_of, link_node_size}
 use Rattle.archive_shape.specs.Bytes.{zeros}
-use Rattle.archive_shape_writing.specs.Writing.{WriterMembers}
+use Rattle.archive_shape_layout.specs.Writing.{WriterMembers}
 use Rattle.archive_forms_writing.proofs.Laying.{stopped_before}
 use Rattle.archive_btree_spelling.specs.Written.{own_bytes, slots_refused}
 use Rattle.archive_btree_writing.specs.Nodes.{borrowed, kind_of, node_of}

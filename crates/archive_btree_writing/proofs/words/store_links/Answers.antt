@@ -1,8 +1,8 @@
 use Rattle.std.proofs.Common.{rules, arith, ◌≡◌, ◌+◌, ◌*◌, ap, ◌∙◌, get_or, None}
 use Rattle.std.proofs.lemmas.List.{get_or_default}
 use Rattle.archive_shape.specs.Bytes.{overwrite}
-use Rattle.archive_forms_values.specs.FormsLaws.State.{initial}
-use Rattle.archive_forms_values.specs.FormsLaws.Links.{LinkRefused}
+use Rattle.archive_forms_laws.specs.State.{initial}
+use Rattle.archive_forms_laws.specs.Links.{LinkRefused}
 use Rattle.archive_btree_writing.proofs.Slots.{laid_none, laid_length, laid_next, laid_refused, laid_all}
 use Rattle.archive_btree_writing.proofs.Pointers.{links_are, links_fit, links_refused}
 use Rattle.archive_btree_writing.proofs.Answered.{answers_error}

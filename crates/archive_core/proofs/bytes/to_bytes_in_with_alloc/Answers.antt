@@ -1,7 +1,7 @@
 use Rattle.std.proofs.Common.{Ok, Err, refl, sym, subst, ap, ◌∙◌}
 use Rattle.std.specs.Prelude.{nat_eq}
 use Rattle.std.specs.HashMap.{get}
-use Rattle.archive_shape_writing.specs.Writing.{WriterMembers}
+use Rattle.archive_shape_layout.specs.Writing.{WriterMembers}
 use Rattle.archive_core_serializing.specs.Kept.{progress_kept}
 use Rattle.archive_core_serializing.specs.declared.shares.share.Share.{Share}
 use Rattle.archive_core.specs.Written.{ArchivesIn}

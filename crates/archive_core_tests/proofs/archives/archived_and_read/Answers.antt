@@ -4,11 +4,11 @@ use Rattle.archive_shape_layout.specs.Value.{Value}
 use Rattle.archive_shape_layout.specs.Content.{Names}
 use Rattle.archive_shape_layout.specs.Holds.{root_position}
 use Rattle.archive_shape.specs.Laws.{FaultRefuses}
-use Rattle.archive_shape_writing.specs.declared.error.Error.{Error}
-use Rattle.archive_shape_writing.specs.declared.error.Error.TheVariants.{OutOfMemory}
-use Rattle.archive_forms_values.specs.ShapeCanonical.Settled.{Fit}
-use Rattle.archive_forms_values.specs.FormsLaws.State.{Keys}
-use Rattle.archive_forms_values.specs.FormsLaws.Spelling.{Spelling}
+use Rattle.archive_shape_layout.specs.declared.error.Error.{Error}
+use Rattle.archive_shape_layout.specs.declared.error.Error.TheVariants.{OutOfMemory}
+use Rattle.archive_shape_canonical.specs.Settled.{Fit}
+use Rattle.archive_forms_laws.specs.State.{Keys}
+use Rattle.archive_forms_laws.specs.Spelling.{Spelling}
 use Rattle.archive_forms.specs.Deserializing.{IsReadAt}
 use Rattle.archive_core_validation.specs.Depth.{unlimited}
 use Rattle.archive_core_validation.specs.Access.{Decides}

@@ -1,5 +1,5 @@
 use Rattle.std.proofs.Common.{arith, ◌≡◌, ◌<◌, length, ap, ◌∙◌}
-use Rattle.archive_forms_laws.specs.ShapeCanonical.FirstFit.{first_fit}
+use Rattle.archive_shape_canonical.specs.FirstFit.{first_fit}
 use Rattle.archive_forms_writing.proofs.Loops.{next_of, none_left, length-resolvers}
 use Rattle.archive_forms_writing.proofs.Arrays.{laid_none, laid_can, laid_next, laid_refused, laid_all, size_whole}
 use Rattle.archive_forms_writing.proofs.array.resolve_elements.Goals as goal

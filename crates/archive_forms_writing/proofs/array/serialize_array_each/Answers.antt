@@ -1,6 +1,6 @@
 use Rattle.std.proofs.Common.{arith, ◌<◌, ◌≤◌, ◌+◌, List, sym, ap, ◌∙◌, ◌∷◌, [], ◌++◌, subst, length, length-set, take, take_all, get_or}
 use Rattle.std.proofs.lemmas.List.{length-replicate}
-use Rattle.archive_shape_writing.specs.Writing.{WriterMembers}
+use Rattle.archive_shape_layout.specs.Writing.{WriterMembers}
 use Rattle.archive_forms_writing.proofs.Loops.{Reached, next_of, none_left, reached_first, first_stopped, reached_next, reached_stopped, reached_all}
 use Rattle.archive_forms_writing.proofs.Arrays.{take_set, take_one, all_at}
 use Rattle.archive_forms_writing.proofs.array.serialize_array_each.Goals as goal

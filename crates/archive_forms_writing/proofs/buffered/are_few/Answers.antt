@@ -1,5 +1,5 @@
 use Rattle.std.proofs.Common.{rules, arith, ◌∙◌, ◌≤◌, ◌*◌, ◌^◌, ◌-◌, min}
-use Rattle.archive_shape.specs.ShapeLayout.Shape.{size_of}
+use Rattle.archive_shape_layout.specs.Shape.{size_of}
 use Rattle.archive_forms_writing.proofs.Batches.{few_sized}
 use Rattle.archive_forms_writing.proofs.buffered.are_few.Goals as goal
 

@@ -1,6 +1,6 @@
 use Rattle.std.proofs.Common.{rules, arith, ◌≡◌, ◌+◌, ◌≤◌, length, ap, sym, ◌∙◌}
-use Rattle.archive_shape.specs.ShapeLayout.Shape.{size_of}
-use Rattle.archive_forms_laws.specs.ShapeCanonical.FirstFit.{first_fit}
+use Rattle.archive_shape_layout.specs.Shape.{size_of}
+use Rattle.archive_shape_canonical.specs.FirstFit.{first_fit}
 use Rattle.archive_forms_writing.proofs.Loops.{next_of, none_left, length-resolvers}
 use Rattle.archive_forms_writing.proofs.Batches.{blank_there, filling_next, buffered_refuses, all_filled, next_within, next_kept}
 use Rattle.archive_forms_writing.proofs.buffered.resolve_all.Goals as goal

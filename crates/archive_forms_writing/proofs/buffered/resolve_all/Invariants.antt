@@ -1,5 +1,5 @@
 use Rattle.std.proofs.Common.{◌≡◌, ◌*◌, length}
-use Rattle.archive_shape.specs.ShapeLayout.Shape.{size_of}
+use Rattle.archive_shape_layout.specs.Shape.{size_of}
 use Rattle.archive_forms_writing.proofs.Batches.{Filling, unwritten}
 use Rattle.archive_forms_writing.proofs.buffered.resolve_all.Given as goal
 

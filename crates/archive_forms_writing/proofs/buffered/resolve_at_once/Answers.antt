@@ -1,5 +1,5 @@
 use Rattle.std.proofs.Common.{◌≡◌, take, sym, subst, inr}
-use Rattle.archive_shape_writing.specs.Writing.{WriterMembers}
+use Rattle.archive_shape_layout.specs.Writing.{WriterMembers}
 use Rattle.archive_forms_laws.specs.Regions.{owns, owns_fit, owns_refused}
 use Rattle.archive_forms_writing.proofs.Laying.{stopped_before, writes_lays}
 use Rattle.archive_forms_writing.proofs.buffered.resolve_at_once.Goals as goal

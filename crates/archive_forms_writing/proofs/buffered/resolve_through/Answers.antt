@@ -1,8 +1,8 @@
 use Rattle.std.proofs.Common.{rules, arith, ◌≡◌, ◌+◌, ◌≤◌, ◌^◌, length, ap, sym, subst, ◌∙◌}
-use Rattle.archive_shape.specs.ShapeLayout.Shape.{size_of}
+use Rattle.archive_shape_layout.specs.Shape.{size_of}
 use Rattle.archive_shape.specs.Bytes.{overwrite}
 use Rattle.archive_forms_laws.specs.Regions.{placed_fits, placed_refused}
-use Rattle.archive_forms_laws.specs.ShapeCanonical.FirstFit.{first_fit}
+use Rattle.archive_shape_canonical.specs.FirstFit.{first_fit}
 use Rattle.archive_forms_writing.proofs.Loops.{next_of, none_left, length-resolvers}
 use Rattle.archive_forms_writing.proofs.Batches.{Filling, blank_there, filling_moved, filling_flushed, filling_next, buffered_refused, buffered_past, buffered_stopped, all_laid}
 use Rattle.archive_forms_writing.proofs.buffered.resolve_through.Goals.{then-room-filled+in_default+else-room-size, else-room-filled}

@@ -1,4 +1,4 @@
-use Rattle.archive_shape_writing.specs.Writing.{WriterMembers}
+use Rattle.archive_shape_layout.specs.Writing.{WriterMembers}
 use Rattle.archive_forms_writing.proofs.Root.{makes_archive}
 use Rattle.archive_forms_writing.proofs.bytes.serialize_using.Goals as goal
 

@@ -1,5 +1,5 @@
 use Rattle.std.proofs.Common.{arith, ◌∙◌}
-use Rattle.archive_shape_writing.specs.Writing.{WriterMembers}
+use Rattle.archive_shape_layout.specs.Writing.{WriterMembers}
 use Rattle.archive_forms_writing.proofs.Behind.{behind_failed, behind_far, behind_written, behind_stopped}
 use Rattle.archive_forms_writing.proofs.elements.resolve_behind.Goals as goal
 

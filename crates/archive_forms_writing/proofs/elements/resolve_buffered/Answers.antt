@@ -1,5 +1,5 @@
 use Rattle.std.proofs.Common.{refl, inl}
-use Rattle.archive_shape_writing.specs.Writing.{WriterMembers}
+use Rattle.archive_shape_layout.specs.Writing.{WriterMembers}
 use Rattle.archive_forms_laws.specs.Regions.{owns, owns_refused}
 use Rattle.archive_forms_writing.proofs.Laying.{stopped_before}
 use Rattle.archive_forms_writing.proofs.elements.resolve_buffered.Goals as goal

@@ -1,5 +1,5 @@
 use Rattle.std.proofs.Common.{arith, ◌∙◌, [], ◌∷◌}
-use Rattle.archive_shape_writing.specs.Writing.{WriterMembers}
+use Rattle.archive_shape_layout.specs.Writing.{WriterMembers}
 use Rattle.archive_forms_writing.proofs.Regions.{Filled, padded, region_starts, region_data_stopped, region_gap_stopped, region_far, region_owns_stopped, region_written, one_filled, one_stopped, one_own_wrote, one_own_stopped}
 use Rattle.archive_forms_writing.proofs.elements.serialize_one_each.Goals as goal
 

@@ -1,5 +1,5 @@
 use Rattle.std.proofs.Common.{arith, ◌∙◌}
-use Rattle.archive_shape_writing.specs.Writing.{WriterMembers}
+use Rattle.archive_shape_layout.specs.Writing.{WriterMembers}
 use Rattle.archive_forms_writing.proofs.Regions.{Filled, region_data_stopped, region_behind}
 use Rattle.archive_forms_writing.proofs.elements.serialize_slice_with_each.Goals as goal
 

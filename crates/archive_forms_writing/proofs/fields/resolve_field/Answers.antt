@@ -1,5 +1,5 @@
 use Rattle.std.proofs.Common.{◌≡◌, rules, arith, ◌∙◌}
-use Rattle.archive_shape.specs.ShapeLayout.Shape.{size_of}
+use Rattle.archive_shape_layout.specs.Shape.{size_of}
 use Rattle.archive_forms_writing.proofs.Structs.{field_from, field_can, field_wrote, field_refused}
 use Rattle.archive_forms_writing.proofs.fields.resolve_field.Goals as goal
 

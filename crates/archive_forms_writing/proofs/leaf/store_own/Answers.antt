@@ -1,5 +1,5 @@
 use Rattle.std.proofs.Common.{arith, subst}
-use Rattle.archive_forms_laws.specs.ShapeCanonical.Canonical.{AreBytes}
+use Rattle.archive_shape_canonical.specs.Canonical.{AreBytes}
 use Rattle.archive_forms_writing.proofs.leaf.store_own.Goals as goal
 
 pub returns-clause-small : goal.returns-clause-small

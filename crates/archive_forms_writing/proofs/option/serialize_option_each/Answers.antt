@@ -1,4 +1,4 @@
-use Rattle.archive_shape_writing.specs.Writing.{WriterMembers}
+use Rattle.archive_shape_layout.specs.Writing.{WriterMembers}
 use Rattle.archive_forms_writing.proofs.Options.{some_wrote, some_stopped}
 use Rattle.archive_forms_writing.proofs.option.serialize_option_each.Goals as goal
 

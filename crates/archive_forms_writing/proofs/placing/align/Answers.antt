@@ -1,6 +1,6 @@
 use Rattle.std.proofs.Common.{arith, ◌≡◌, ap, ℕ, ◌+◌, ◌-◌, length}
-use Rattle.archive_shape.specs.ShapeLayout.Bytes.{align_up}
-use Rattle.archive_shape.proofs.ShapeLayout.Framed.{le_align_up}
+use Rattle.archive_shape_layout.specs.Bytes.{align_up}
+use Rattle.archive_shape_layout.proofs.Framed.{le_align_up}
 use Rattle.archive_shape.specs.Bytes.{zeros}
 use Rattle.std.proofs.lemmas.List.{length-replicate}
 use Rattle.archive_forms_writing.proofs.placing.align.Goals as goal

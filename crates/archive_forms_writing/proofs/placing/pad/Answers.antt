@@ -1,6 +1,6 @@
 use Rattle.std.proofs.Common.{arith, ◌≡◌, ℕ, take, List, subst}
 use Rattle.std.proofs.lemmas.List.{take-replicate}
-use Rattle.archive_shape_writing.specs.Writing.{Appends}
+use Rattle.archive_shape_layout.specs.Writing.{Appends}
 use Rattle.archive_shape.specs.Bytes.{zeros}
 use Rattle.archive_forms_writing.proofs.placing.pad.Goals as goal
 

@@ -1,4 +1,4 @@
-use Rattle.archive_shape_writing.specs.Writing.{WriterMembers}
+use Rattle.archive_shape_layout.specs.Writing.{WriterMembers}
 use Rattle.archive_forms_writing.proofs.Results.{value_wrote, value_stopped, error_wrote, error_stopped}
 use Rattle.archive_forms_writing.proofs.result.serialize_result_each.Goals as goal
 

@@ -1,5 +1,5 @@
 use Rattle.std.proofs.Common.{arith, refl, ap}
-use Rattle.archive_shape_writing.specs.Writing.{WriterMembers}
+use Rattle.archive_shape_layout.specs.Writing.{WriterMembers}
 use Rattle.archive_forms_laws.specs.Fields.{no_fields, more_fields}
 use Rattle.archive_forms_writing.proofs.Structs.{reached_none, reached_next, reached_stopped, reached_all}
 use Rattle.archive_forms_writing.proofs.tuple4.serialize_tuple4_each.Goals as goal

@@ -1,5 +1,5 @@
 use Rattle.std.proofs.Common.{rules, ◌≡◌, ◌∙◌, [], map, sym, ap}
-use Rattle.archive_hash_maps.specs.HashWalking.Maps.{entry_at}
+use Rattle.archive_hash_maps.specs.Maps.{entry_at}
 use Rattle.archive_hash.proofs.Items.{next_position, none_left, next_has, reading_begun, next_read, reading_ended}
 use Rattle.archive_hash.proofs.StdMaps.{map_put}
 use Rattle.archive_hash.proofs.deserialize.deserialize_hash_map_each.Goals as goal

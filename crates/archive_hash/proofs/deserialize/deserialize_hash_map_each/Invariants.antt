@@ -1,5 +1,5 @@
 use Rattle.std.proofs.Common.{◌≡◌, ℕ, List, map, length}
-use Rattle.archive_hash_maps.specs.HashWalking.Maps.{entry_at}
+use Rattle.archive_hash_maps.specs.Maps.{entry_at}
 use Rattle.archive_hash.proofs.Items.{IsReading}
 use Rattle.archive_hash.proofs.deserialize.deserialize_hash_map_each.Given as goal
 

@@ -1,7 +1,7 @@
 use Rattle.std.proofs.Common.{◌∙◌, ap, map, subst}
 use Rattle.std.specs.Iterator.{Drains}
 use Rattle.std.specs.Map.Iter.{deref_pair}
-use Rattle.archive_shape_writing.specs.Writing.{WriterMembers}
+use Rattle.archive_shape_layout.specs.Writing.{WriterMembers}
 use Rattle.archive_forms_laws.specs.Taking.{GivesAs}
 use Rattle.archive_hash_probing.specs.Inputs.{input_hash}
 use Rattle.archive_hash.specs.Given.{entry_of}

@@ -1,4 +1,4 @@
-use Rattle.archive_shape_writing.specs.Writing.{WriterMembers}
+use Rattle.archive_shape_layout.specs.Writing.{WriterMembers}
 use Rattle.archive_hash_probing.specs.Inputs.{input_hash}
 use Rattle.archive_hash.proofs.Whole.{writes_more}
 use Rattle.archive_hash.proofs.from_iter.serialize_map_from_iter.Goals as goal

@@ -1,4 +1,4 @@
-use Rattle.archive_hash_walking.proofs.Found.{fx_hash}
+use Rattle.archive_hash_maps.proofs.Found.{fx_hash}
 use Rattle.archive_hash.proofs.Answering.{map_answers}
 use Rattle.archive_hash.proofs.laws.written_map_answers.Goals as goal
 

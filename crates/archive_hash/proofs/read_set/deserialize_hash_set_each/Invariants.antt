@@ -1,10 +1,10 @@
 use Rattle.std.proofs.Common.{◌≡◌, ℕ, List, map, length}
 use Rattle.std.specs.Prelude.{⊤}
-use Rattle.archive_shape.specs.ShapeLayout.Shape.Shape.{tuple}
-use Rattle.archive_shape.specs.ShapeLayout.Shape.Shapes.{no_shapes}
+use Rattle.archive_shape_layout.specs.Shape.Shape.{tuple}
+use Rattle.archive_shape_layout.specs.Shape.Shapes.{no_shapes}
 use Rattle.archive_forms_laws.specs.Fields.{unit_spelling}
 use Rattle.archive_forms.specs.Reading.{reads_as}
-use Rattle.archive_hash_maps.specs.HashWalking.Maps.{entry_at}
+use Rattle.archive_hash_maps.specs.Maps.{entry_at}
 use Rattle.archive_hash.specs.Owned.{key_entries}
 use Rattle.archive_hash.proofs.Items.{IsReading}
 use Rattle.archive_hash.proofs.read_set.deserialize_hash_set_each.Given as goal

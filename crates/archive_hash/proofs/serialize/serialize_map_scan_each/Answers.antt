@@ -1,5 +1,5 @@
 use Rattle.std.proofs.Common.{arith, List, All, length, ap, sym, subst}
-use Rattle.archive_shape_writing.specs.Writing.{WriterMembers}
+use Rattle.archive_shape_layout.specs.Writing.{WriterMembers}
 use Rattle.archive_forms_laws.specs.Serializing.{Serializes}
 use Rattle.archive_hash_probing.specs.Inputs.{input_hash}
 use Rattle.archive_hash.specs.Owned.{entries_spelling}

@@ -1,6 +1,6 @@
 use Rattle.std.proofs.Common.{refl}
-use Rattle.archive_hash_maps.specs.HashWalking.Walks.{BegunMap, items_of}
-use Rattle.archive_hash_maps.proofs.HashWalking.Roots.{places_of_value}
+use Rattle.archive_hash_maps.specs.Walks.{BegunMap, items_of}
+use Rattle.archive_hash_maps.proofs.Roots.{places_of_value}
 use Rattle.archive_hash_tests.proofs.sealing.fill_first.Goals as goal
 
 pub next-requires : goal.next-requires

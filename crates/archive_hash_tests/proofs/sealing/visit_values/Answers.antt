@@ -1,6 +1,6 @@
 use Rattle.std.proofs.Common.{refl, ap, length, arith}
-use Rattle.archive_hash_maps.specs.HashWalking.Walks.{BegunMap, items_of}
-use Rattle.archive_hash_maps.proofs.HashWalking.Roots.{places_of_value}
+use Rattle.archive_hash_maps.specs.Walks.{BegunMap, items_of}
+use Rattle.archive_hash_maps.proofs.Roots.{places_of_value}
 use Rattle.archive_hash_tests.proofs.sealing.visit_values.Goals as goal
 
 pub loop-at-init : goal.loop-at-init

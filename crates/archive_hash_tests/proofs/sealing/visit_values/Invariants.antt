@@ -1,6 +1,6 @@
 use Rattle.std.proofs.Common.{ℕ, List}
-use Rattle.archive_hash_maps.specs.HashWalking.Walks.{BegunMap, HasValuesWritten}
-use Rattle.archive_hash_maps.specs.HashWalking.Cursors.{HasValues}
+use Rattle.archive_hash_maps.specs.Walks.{BegunMap, HasValuesWritten}
+use Rattle.archive_hash_maps.specs.Cursors.{HasValues}
 use Rattle.archive_hash_tests.proofs.sealing.visit_values.Given as goal
 
 abbrev pub invariant-loop-at : goal.invariant-loop-at

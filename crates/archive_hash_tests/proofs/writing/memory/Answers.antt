@@ -1,6 +1,6 @@
 use Rattle.std.proofs.Common.{ℕ, ap, refl, ◌∙◌, Vec, vec_len}
 use Rattle.std.specs.Global.{Global}
-use Rattle.archive_forms_values.specs.FormsLaws.State.{initial}
+use Rattle.archive_forms_laws.specs.State.{initial}
 use Rattle.archive_hash_tests.proofs.writing.memory.Goals as goal
 
 pub returns-clause-state : goal.returns-clause-state

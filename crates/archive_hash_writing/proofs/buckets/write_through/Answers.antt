@@ -1,8 +1,8 @@
 use Rattle.std.proofs.Common.{rules, ◌≡◌, ◌+◌, ◌≤◌, length, arith, refl, sym, ap, ◌∙◌, inl}
 use Rattle.std.proofs.lemmas.List.{length-map}
-use Rattle.archive_shape.specs.ShapeLayout.Shape.{size_of}
-use Rattle.archive_shape_writing.specs.Writing.{WriterMembers}
-use Rattle.archive_hash_probing.specs.ShapeCanonical.FirstFit.{first_fit}
+use Rattle.archive_shape_layout.specs.Shape.{size_of}
+use Rattle.archive_shape_layout.specs.Writing.{WriterMembers}
+use Rattle.archive_shape_canonical.specs.FirstFit.{first_fit}
 use Rattle.archive_hash_writing.specs.Standing.{standing}
 use Rattle.archive_hash_writing.proofs.Filling.{filling_none, filling_failed, filling_all}
 use Rattle.archive_hash_writing.proofs.Ready.{ready, left_zero, resolver_left, can_be_resolved, put_there, refused_there}

@@ -1,8 +1,8 @@
 use Rattle.std.proofs.Common.{◌≡◌, ◌+◌, arith, refl, ap, List, [], ◌∷◌, ◌++◌, Bool, true, false, if◌then◌else◌, None, map, inl}
-use Rattle.archive_shape_writing.specs.Writing.{WriterMembers}
-use Rattle.archive_hash_probing.specs.ShapeCanonical.FirstFit.{present}
-use Rattle.archive_forms_writing.specs.FormsLaws.Serializing.{of_data}
-use Rattle.archive_forms_writing.specs.FormsLaws.Regions.{pieces, pieces_refused}
+use Rattle.archive_shape_layout.specs.Writing.{WriterMembers}
+use Rattle.archive_shape_canonical.specs.FirstFit.{present}
+use Rattle.archive_forms_laws.specs.Serializing.{of_data}
+use Rattle.archive_forms_laws.specs.Regions.{pieces, pieces_refused}
 use Rattle.archive_forms_writing.proofs.Laying.{stopped_before}
 use Rattle.archive_hash_writing.specs.Standing.{standing}
 use Rattle.archive_hash_writing.proofs.Present.{read_as}

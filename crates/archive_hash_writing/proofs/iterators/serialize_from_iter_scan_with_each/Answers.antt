@@ -1,7 +1,7 @@
 use Rattle.std.proofs.Common.{ℕ, ◌∙◌, List, Err, arith, ap, refl, sym, subst, inl, inr, length, rules}
 use Rattle.std.specs.Fn.{FnReturnsAt}
-use Rattle.archive_shape_writing.specs.Writing.{WriterMembers}
-use Rattle.archive_forms_writing.specs.FormsLaws.Serializing.{Serializes}
+use Rattle.archive_shape_layout.specs.Writing.{WriterMembers}
+use Rattle.archive_forms_laws.specs.Serializing.{Serializes}
 use Rattle.archive_forms_writing.specs.Steps.{IsElement, StepTakes}
 use Rattle.archive_hash_probing.specs.Loads.{IsLoadFactor}
 use Rattle.archive_hash_writing.specs.Claimed.{AreHashesOf, written_spelling}

@@ -1,5 +1,5 @@
 use Rattle.std.proofs.Common.{◌≡◌, drop, map}
-use Rattle.archive_hash_probing.specs.ShapeCanonical.FirstFit.{placed}
+use Rattle.archive_shape_canonical.specs.FirstFit.{placed}
 use Rattle.archive_hash_writing.specs.Standing.{standing}
 use Rattle.archive_hash_writing.proofs.places.place_items.Given as goal
 

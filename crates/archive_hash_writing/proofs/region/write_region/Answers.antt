@@ -1,6 +1,6 @@
 use Rattle.std.proofs.Common.{◌∙◌, arith, length, map, refl, sym}
 use Rattle.std.proofs.lemmas.List.{length-map}
-use Rattle.archive_shape_writing.specs.Writing.{WriterMembers}
+use Rattle.archive_shape_layout.specs.Writing.{WriterMembers}
 use Rattle.archive_hash_writing.specs.Standing.{standing}
 use Rattle.archive_hash_writing.proofs.WholeRegion.{aligned_at, gap_failed, region_far, buckets_stopped, controls_failed, region_laid}
 use Rattle.archive_hash_writing.proofs.region.write_region.Goals as goal

@@ -1,8 +1,8 @@
 use Rattle.std.proofs.Common.{◌∙◌, ◌<◌, All, sym, List, [], Option, arith, ap, refl, subst, inl, length}
-use Rattle.archive_shape_writing.specs.Writing.{WriterMembers}
-use Rattle.archive_hash_probing.specs.ShapeCanonical.FirstFit.{fitted_from, present}
+use Rattle.archive_shape_layout.specs.Writing.{WriterMembers}
+use Rattle.archive_shape_canonical.specs.FirstFit.{fitted_from, present}
 use Rattle.archive_forms_writing.specs.Steps.{IsElement}
-use Rattle.archive_forms_writing.specs.FormsLaws.Serializing.{of_data}
+use Rattle.archive_forms_laws.specs.Serializing.{of_data}
 use Rattle.archive_forms_writing.proofs.Laying.{stopped_before}
 use Rattle.archive_hash_writing.specs.Claimed.{written_spelling}
 use Rattle.archive_hash_writing.proofs.Among.{among_items}

@@ -1,11 +1,11 @@
 use Rattle.std.proofs.Common.{rules, arith, ap, subst, sym, ◌∙◌, ◌*◌, ◌-◌, ◌^◌, min}
-use Rattle.archive_shape.specs.ShapeLayout.Shape.{size_of}
-use Rattle.archive_shape.specs.ShapeLayout.Shape.Pointee.{slice}
-use Rattle.archive_shape.specs.ShapeLayout.Content.Part.{behind}
+use Rattle.archive_shape_layout.specs.Shape.{size_of}
+use Rattle.archive_shape_layout.specs.Shape.Pointee.{slice}
+use Rattle.archive_shape_layout.specs.Content.Part.{behind}
 use Rattle.archive_shape.specs.Checks.{Checks}
-use Rattle.archive_hash_checking.proofs.FormsValues.Claimed.{elements_cut}
-use Rattle.archive_hash_checking.specs.Heads.{HasHead}
-use Rattle.archive_hash_checking.proofs.HeadChecks.{head_some, head_none}
+use Rattle.archive_forms_values.proofs.Claimed.{elements_cut}
+use Rattle.archive_hash_maps.specs.Heads.{HasHead}
+use Rattle.archive_hash_maps.proofs.HeadChecks.{head_some, head_none}
 use Rattle.archive_index.proofs.IndexChecks.{map_empty, head_refused, table_refused, entries_astray, entries_decide}
 use Rattle.archive_index.proofs.check.check_index_map_each.Goals as goal
 

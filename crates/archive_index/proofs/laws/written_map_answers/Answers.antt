@@ -1,4 +1,4 @@
-use Rattle.archive_hash.proofs.HashWalking.Found.{fx_hash}
+use Rattle.archive_hash_maps.proofs.Found.{fx_hash}
 use Rattle.archive_index.proofs.InOrder.{map_answers}
 use Rattle.archive_index.proofs.laws.written_map_answers.Goals as goal
 

@@ -1,4 +1,4 @@
-use Rattle.cab_files.proofs.Cabinet.Sessions.{none_edited}
+use Rattle.cabinet.proofs.Sessions.{none_edited}
 use Rattle.cab.proofs.Endings.{flushed_edits, unedited}
 use Rattle.cab.proofs.running.run_lines.Goals as goal
 

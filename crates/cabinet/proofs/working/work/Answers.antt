@@ -1,5 +1,5 @@
 use Rattle.std.proofs.Common.{◌≡◌, ◌≤◌, length, subst, sym, arith, rules}
-use Rattle.cabinet_archives.specs.Documents.Image.{Image}
+use Rattle.cabinet_documents.specs.Image.{Image}
 use Rattle.cabinet.proofs.WorkedAnswers.{works, whole_back}
 use Rattle.cabinet.proofs.working.work.Goals as goal
 

@@ -3,7 +3,7 @@ use Rattle.std.specs.Prelude.{true, false}
 use Rattle.std.specs.Int.{w64}
 use Rattle.archive_shape_layout.specs.Shape.Shape.{number, truth, text, shared, option, box, vector, tree, table, index_map}
 use Rattle.archive_shape_layout.specs.Shape.Pointee.{sized, str}
-use Rattle.archive_forms_values.proofs.FormsLaws.Levels.{option_box_sized}
+use Rattle.archive_forms_laws.proofs.Levels.{option_box_sized}
 use Rattle.cabinet_documents.specs.Node.{node_shape, pair_shape, whole_shape}
 use Rattle.cabinet_archived.proofs.Nodes.{payload_checked, other_refused}
 use Rattle.cabinet_archived.proofs.check.+node.Goals as goal

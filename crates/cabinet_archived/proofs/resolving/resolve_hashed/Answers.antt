@@ -1,8 +1,8 @@
 use Rattle.std.proofs.Common.{rules, ◌∙◌, sym}
 use Rattle.archive_shape_layout.specs.Shape.Shape.{text, table}
-use Rattle.archive_forms_laws.specs.ShapeCanonical.Hash.{text_hash}
+use Rattle.archive_shape_canonical.specs.Hash.{text_hash}
 use Rattle.archive_forms_writing.specs.Owned.{str_spelling}
-use Rattle.archive_index.proofs.Hash.Resolved.{entries_resolve}
+use Rattle.archive_hash.proofs.Resolved.{entries_resolve}
 use Rattle.cabinet_documents.specs.Node.{node_shape, pair_shape}
 use Rattle.cabinet_documents.specs.Spelling.{node_spelling}
 use Rattle.cabinet_archived.specs.Archived.{pairs_within}

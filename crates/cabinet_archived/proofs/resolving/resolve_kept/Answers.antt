@@ -1,6 +1,6 @@
 use Rattle.std.proofs.Common.{rules, ◌≡◌, ◌∙◌, sym, length, arith}
 use Rattle.archive_shape_layout.specs.Shape.Shape.{text}
-use Rattle.archive_forms_laws.specs.ShapeCanonical.Hash.{text_hash}
+use Rattle.archive_shape_canonical.specs.Hash.{text_hash}
 use Rattle.archive_forms_writing.specs.Owned.{str_spelling}
 use Rattle.archive_index.proofs.Resolved.{pairs_resolve}
 use Rattle.cabinet_documents.specs.Node.{node_shape}

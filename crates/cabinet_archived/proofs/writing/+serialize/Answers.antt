@@ -2,9 +2,9 @@ use Rattle.std.proofs.Common.{◌≡◌, ◌∙◌, rules, arith, Ok, Err, [], m
 use Rattle.archive_shape_layout.specs.Shape.Pointee.{sized}
 use Rattle.archive_shape.specs.Bytes.{zeros}
 use Rattle.archive_shape.specs.Sharing.{progress_of}
-use Rattle.archive_shape_writing.specs.Writing.{WriterMembers}
-use Rattle.archive_shape_writing.specs.Progress.{Starts, Finishes}
-use Rattle.archive_shape_writing.specs.Progress.Progress.{unmet, begun, ended}
+use Rattle.archive_shape_layout.specs.Writing.{WriterMembers}
+use Rattle.archive_shape_layout.specs.Progress.{Starts, Finishes}
+use Rattle.archive_shape_layout.specs.Progress.Progress.{unmet, begun, ended}
 use Rattle.archive_forms_laws.specs.State.{with_begun}
 use Rattle.archive_forms_laws.specs.Serializing.{Serializes}
 use Rattle.archive_forms_laws.specs.Shared.{shared_padding}

@@ -30,8 +30,8 @@ decreases-serialize_ordered-serialize_entries_with_each+arg5 g l = 3 * most_in_p
 abbrev pub decreases-serialize_hashed : goal.decreases-serialize_hashed
 decreases-serialize_hashed g l = 3 * most_in_pairs (table_of l.wholes.now) l.map.now.entries + 2
 
-abbrev pub decreases-serialize_hashed-serialize_hashed_entries_with_each+arg5 : goal.decreases-serialize_hashed-serialize_hashed_entries_with_each+arg5
-decreases-serialize_hashed-serialize_hashed_entries_with_each+arg5 g l = 3 * most_in_pairs (table_of l.wholes.now) l.map.now.entries + 1
+abbrev pub decreases-serialize_hashed-serialize_entries_with_each+arg5 : goal.decreases-serialize_hashed-serialize_entries_with_each+arg5
+decreases-serialize_hashed-serialize_entries_with_each+arg5 g l = 3 * most_in_pairs (table_of l.wholes.now) l.map.now.entries + 1
 
 abbrev pub decreases-serialize_kept : goal.decreases-serialize_kept
 decreases-serialize_kept g l = 3 * most_in_pairs (table_of l.wholes.now) l.pairs.now.items + 2

@@ -1,5 +1,5 @@
 use Rattle.std.proofs.Common.{refl}
-use Rattle.cabinet.specs.Archives.Refused.{refusal_of}
+use Rattle.cabinet_archives.specs.Refused.{refusal_of}
 use Rattle.cabinet_c.specs.Calls.Checks.{accepted, refused}
 use Rattle.cabinet_c.proofs.checking.check.Goals as goal
 

@@ -1,6 +1,6 @@
 use Rattle.std.proofs.Common.{refl}
-use Rattle.cabinet.specs.Archives.Refused.{refusal_of}
-use Rattle.cabinet.specs.Documents.Audit.{out_of_memory}
+use Rattle.cabinet_archives.specs.Refused.{refusal_of}
+use Rattle.cabinet_documents.specs.Audit.{out_of_memory}
 use Rattle.cabinet_c.specs.Calls.Loads.{refused}
 use Rattle.cabinet_c.proofs.Given.{written_alone, loads_text}
 use Rattle.cabinet_c.proofs.loading.load.Goals as goal

@@ -1,4 +1,4 @@
-use Rattle.std.proofs.Common.{◌≡◌, ◌≢◌, ℕ, List, Vec, Global, Some, MatchOption, IsUtf8, subst}
+use Rattle.std.proofs.Common.{◌≡◌, ◌≢◌, ℕ, List, Vec, Global, MatchOption, IsUtf8, subst}
 use Rattle.cabinet_text_grammar.specs.Spelling.{escaped}
 use Rattle.cabinet_text_grammar.proofs.Utf8.{IsUtf8-unescaped}
 use Rattle.cabinet_text_bytes.proofs.escape.try_unescape.Goals as goal

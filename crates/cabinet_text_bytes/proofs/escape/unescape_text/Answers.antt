@@ -1,4 +1,4 @@
-use Rattle.std.proofs.Common.{◌≡◌, ◌≢◌, ℕ, List, Vec, Global, Some, MatchOption, IsUtf8, subst, sym, ◌∙◌}
+use Rattle.std.proofs.Common.{◌≡◌, ◌≢◌, ℕ, List, Vec, Global, MatchOption, IsUtf8, subst, sym, ◌∙◌}
 use Rattle.cabinet_text_grammar.specs.Spelling.{escaped}
 use Rattle.cabinet_text_grammar.proofs.Escapes.{escaped_injective}
 use Rattle.cabinet_text_bytes.proofs.escape.unescape_text.Goals as goal

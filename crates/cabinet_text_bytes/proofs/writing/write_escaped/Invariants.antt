@@ -1,5 +1,5 @@
 use Rattle.std.proofs.Common.{◌≤◌, take}
-use Rattle.archive_shape_writing.specs.Writing.{Written}
+use Rattle.archive_shape_layout.specs.Writing.{Written}
 use Rattle.cabinet_text_grammar.specs.Spelling.{escaped}
 use Rattle.cabinet_text_bytes.proofs.Runs.{IsRun}
 use Rattle.cabinet_text_bytes.proofs.writing.write_escaped.Given as goal

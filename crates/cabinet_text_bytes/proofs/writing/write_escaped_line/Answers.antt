@@ -1,5 +1,5 @@
 use Rattle.std.specs.Prelude.{codes}
-use Rattle.archive_shape_writing.proofs.Joined.{appends_after}
+use Rattle.archive_shape_layout.proofs.Joined.{appends_after}
 use Rattle.cabinet_text_bytes.proofs.writing.write_escaped_line.Goals as goal
 
 pub returns : goal.returns

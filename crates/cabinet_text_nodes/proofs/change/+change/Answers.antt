@@ -1,4 +1,4 @@
-use Rattle.std.proofs.Common.{◌≡◌, List, arith, [], ◌∷◌, ap, sym, ◌∙◌, refl, subst, ◌<◌, length, Some, None, MutBor}
+use Rattle.std.proofs.Common.{[], ◌∷◌, ap, sym, ◌∙◌, refl, subst, ◌<◌, length, Some, None, MutBor}
 use Rattle.cabinet_text_nodes.specs.declared.node.Node.{Node}
 use Rattle.cabinet_text_grammar.specs.Keys.{ordered, hashed, kept}
 use Rattle.cabinet_text_grammar.specs.Tree.{just, list, map, IsLegal}

@@ -1,7 +1,8 @@
 use Rattle.std.proofs.Common.{◌<◌, ◌^◌, ◌∙◌, length, sym, subst, arith, None, Some}
 use Rattle.std.proofs.lemmas.Bool.{true≢false}
 use Rattle.cabinet_text_nodes.specs.Faults.{TableFault}
-use Rattle.cabinet_text_nodes.proofs.TableFaults.{refused, no_fault, is_document, TellsRepeats, TellsOrder}
+use Rattle.cabinet_text_nodes.specs.Calls.{TellsOrder}
+use Rattle.cabinet_text_nodes.proofs.TableFaults.{refused, no_fault, is_document, TellsRepeats}
 use Rattle.cabinet_text_nodes.proofs.table.refusal_of.Goals as goal
 
 pub returns-in-Ok-Some : goal.returns-in-Ok-Some

@@ -1,6 +1,6 @@
 use Rattle.std.proofs.Common.{All, sym, subst}
-use Rattle.archive_btree_walking.specs.Refs.{IsThere}
-use Rattle.archive_btree_walking.proofs.Runs.{all_there}
+use Rattle.archive_btree_maps.specs.Refs.{IsThere}
+use Rattle.archive_btree_maps.proofs.Runs.{all_there}
 use Rattle.archive_bench.specs.BtreeTexts.{text_shape, number_shape, known}
 use Rattle.archive_bench.proofs.BtreeRead.{first_there, rest_there}
 use Rattle.archive_bench.proofs.btree.reads.sum_entries.Goals as goal

@@ -1,5 +1,5 @@
 use Rattle.std.proofs.Common.{All}
-use Rattle.archive_btree_walking.specs.Refs.{IsThere}
+use Rattle.archive_btree_maps.specs.Refs.{IsThere}
 use Rattle.archive_bench.specs.BtreeTexts.{text_shape, number_shape, known}
 use Rattle.archive_bench.proofs.btree.reads.sum_entries.Given as goal
 

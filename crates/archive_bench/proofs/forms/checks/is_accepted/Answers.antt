@@ -1,5 +1,5 @@
 use Rattle.std.proofs.Common.{rules, arith, [], refl}
-use Rattle.archive_shape.specs.ShapeLayout.Visited.AllStand.{none_stand}
+use Rattle.archive_shape_layout.specs.Visited.AllStand.{none_stand}
 use Rattle.archive_forms_values.proofs.Accepted.{accepted_has_value}
 use Rattle.archive_bench.proofs.forms.checks.is_accepted.Goals as goal
 

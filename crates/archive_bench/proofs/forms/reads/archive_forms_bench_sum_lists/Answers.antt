@@ -1,10 +1,10 @@
 use Rattle.std.proofs.Common.{arith, false, ◌≡◌, ◌<◌, ◌+◌, ◌*◌, ℕ, List, sym, ap, subst, ◌∙◌}
 use Rattle.std.specs.Prelude.{⊤}
 use Rattle.std.specs.Int.{w32}
-use Rattle.archive_shape.specs.ShapeLayout.Shape.Shape.{number, vector}
-use Rattle.archive_forms_values.specs.FormsLaws.Views.{natural_of}
+use Rattle.archive_shape_layout.specs.Shape.Shape.{number, vector}
+use Rattle.archive_forms_laws.specs.Views.{natural_of}
 use Rattle.archive_bench.specs.FormsSums.{sum_of}
-use Rattle.archive_shape.specs.ShapeLayout.Shape.{Shape}
+use Rattle.archive_shape_layout.specs.Shape.{Shape}
 use Rattle.archive_forms_values.specs.Parts.{HasValue, IsVecAt}
 use Rattle.archive_forms_values.proofs.Inside.{some_says}
 use Rattle.archive_bench.specs.FormsSums.{IsOf}

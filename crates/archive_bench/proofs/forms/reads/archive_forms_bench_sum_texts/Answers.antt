@@ -1,9 +1,9 @@
 use Rattle.std.proofs.Common.{arith, false, ◌≡◌, ◌<◌, ◌+◌, ◌*◌, ℕ, List, sym, ap, subst, ◌∙◌}
 use Rattle.std.specs.Prelude.{⊤}
 use Rattle.std.specs.Int.{w32}
-use Rattle.archive_shape.specs.ShapeLayout.Shape.Shape.{text}
+use Rattle.archive_shape_layout.specs.Shape.Shape.{text}
 use Rattle.archive_bench.specs.FormsSums.{weight}
-use Rattle.archive_shape.specs.ShapeLayout.Shape.{Shape}
+use Rattle.archive_shape_layout.specs.Shape.{Shape}
 use Rattle.archive_forms_values.specs.Parts.{HasValue, IsVecAt}
 use Rattle.archive_forms_values.proofs.Inside.{some_says}
 use Rattle.archive_bench.specs.FormsSums.{IsOf}

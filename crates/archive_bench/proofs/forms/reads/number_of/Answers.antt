@@ -1,5 +1,5 @@
 use Rattle.std.proofs.Common.{ap, ◌∙◌}
-use Rattle.archive_forms_values.specs.FormsLaws.Views.{natural_of}
+use Rattle.archive_forms_laws.specs.Views.{natural_of}
 use Rattle.archive_bench.proofs.forms.reads.number_of.Goals as goal
 
 pub returns : goal.returns

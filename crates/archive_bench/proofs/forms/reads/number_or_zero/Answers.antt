@@ -1,7 +1,7 @@
 use Rattle.std.proofs.Common.{◌≡◌, List, ℕ, ap, sym, subst, false, ◌∙◌}
 use Rattle.std.specs.Prelude.{⊤}
 use Rattle.std.specs.Int.{w32}
-use Rattle.archive_shape.specs.ShapeLayout.Shape.Shape.{number}
+use Rattle.archive_shape_layout.specs.Shape.Shape.{number}
 use Rattle.archive_shape.specs.Key.{HeldAt}
 use Rattle.archive_forms_values.specs.Parts.{HasValue}
 use Rattle.archive_bench.specs.FormsSums.{number_or_zero}

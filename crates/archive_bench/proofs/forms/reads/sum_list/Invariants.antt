@@ -1,7 +1,7 @@
 use Rattle.std.proofs.Common.{false}
 use Rattle.std.specs.Int.{w32}
-use Rattle.archive_shape.specs.ShapeLayout.Shape.Shape.{number}
-use Rattle.archive_forms_values.specs.FormsLaws.Views.{natural_of}
+use Rattle.archive_shape_layout.specs.Shape.Shape.{number}
+use Rattle.archive_forms_laws.specs.Views.{natural_of}
 use Rattle.archive_bench.proofs.Sums.{IsTotal}
 use Rattle.archive_bench.proofs.forms.reads.sum_list.Given as goal
 

@@ -1,6 +1,6 @@
 use Rattle.std.proofs.Common.{◌≡◌, ℕ, ◌-◌, List, length, Some, None, Option, ap, sym, ◌∙◌}
 use Rattle.std.specs.Prelude.{⊤, slice_get, option_copied}
-use Rattle.archive_forms_values.specs.FormsLaws.Views.{text_of}
+use Rattle.archive_forms_laws.specs.Views.{text_of}
 use Rattle.archive_bench.specs.FormsSums.{length_and_last}
 use Rattle.archive_bench.proofs.Held.{text_there, text_read}
 use Rattle.archive_bench.proofs.Sums.{last_added, no_last}

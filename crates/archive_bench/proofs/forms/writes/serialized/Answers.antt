@@ -1,5 +1,5 @@
 use Rattle.std.proofs.Common.{refl}
-use Rattle.archive_forms_values.specs.FormsLaws.State.{initial}
+use Rattle.archive_forms_laws.specs.State.{initial}
 use Rattle.archive_bench.proofs.forms.writes.serialized.Goals as goal
 
 pub serialize_using-requires-clause-state : goal.serialize_using-requires-clause-state

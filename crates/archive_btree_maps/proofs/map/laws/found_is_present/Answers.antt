@@ -1,6 +1,6 @@
-use Rattle.archive_btree_walking.specs.Refs.{value_at}
-use Rattle.archive_btree_walking.proofs.LookedUp.{found_is_present}
-use Rattle.archive_btree_walking.proofs.Roots.{tree_of_value}
+use Rattle.archive_btree_maps.specs.Refs.{value_at}
+use Rattle.archive_btree_maps.proofs.LookedUp.{found_is_present}
+use Rattle.archive_btree_maps.proofs.Roots.{tree_of_value}
 use Rattle.archive_btree_maps.proofs.map.laws.found_is_present.Goals as goal
 
 pub returns : goal.returns

@@ -1,9 +1,9 @@
 use Rattle.std.proofs.Common.{sym, subst}
 use Rattle.std.specs.List.{AllZip}
-use Rattle.archive_btree_nodes.specs.BtreeLayout.Tree.{items}
-use Rattle.archive_btree_walking.specs.Refs.{entry_at}
+use Rattle.archive_btree_layout.specs.Tree.{items}
+use Rattle.archive_btree_maps.specs.Refs.{entry_at}
 use Rattle.archive_btree_maps.specs.StdMaps.{IsSamePair}
-use Rattle.archive_btree_walking.proofs.Runs.{all_there}
+use Rattle.archive_btree_maps.proofs.Runs.{all_there}
 use Rattle.archive_btree_maps.proofs.Same.{all_of_made, all_made}
 use Rattle.archive_btree_maps.proofs.map.std_map.eq_btree_map.Goals as goal
 

@@ -1,11 +1,11 @@
 use Rattle.std.proofs.Common.{All, sym, subst}
 use Rattle.std.proofs.lemmas.List.Elements.{All-map}
-use Rattle.archive_btree_nodes.specs.BtreeLayout.Tree.{items}
+use Rattle.archive_btree_layout.specs.Tree.{items}
 use Rattle.archive_forms_values.specs.Parts.{HasValue}
-use Rattle.archive_btree_walking.specs.Refs.{entry_at, value_at}
-use Rattle.archive_btree_walking.proofs.Held.{entries_are}
-use Rattle.archive_btree_walking.proofs.Roots.{tree_of_value}
-use Rattle.archive_btree_walking.proofs.Runs.{all_there}
+use Rattle.archive_btree_maps.specs.Refs.{entry_at}
+use Rattle.archive_btree_maps.proofs.HeldKeys.{entries_are}
+use Rattle.archive_btree_maps.proofs.Roots.{tree_of_value}
+use Rattle.archive_btree_maps.proofs.Runs.{all_there}
 use Rattle.archive_btree_maps.specs.StdMaps.{IsPairSame, AreSame, MayCallValue}
 use Rattle.archive_btree_maps.proofs.Same.{of_made}
 use Rattle.archive_btree_maps.proofs.map.std_map.eq_btree_map_with.Goals as goal

@@ -1,7 +1,7 @@
 use Rattle.std.proofs.Common.{◌≡◌, ◌∙◌, All, inl, length, sym, ap, subst, arith}
 use Rattle.std.proofs.lemmas.List.Elements.{All-head, All-tail}
 use Rattle.archive_shape.specs.declared.references.refs.Ref.{Ref}
-use Rattle.archive_btree_walking.specs.Refs.{IsThere}
+use Rattle.archive_btree_maps.specs.Refs.{IsThere}
 use Rattle.archive_btree_maps.specs.StdMaps.{IsPairSame, MayCallValue}
 use Rattle.archive_btree_maps.proofs.Compared.{first_ended}
 use Rattle.archive_btree_maps.proofs.Same.{at_start, all_same, first_other, first_same, may_first, may_others}

@@ -1,5 +1,5 @@
 use Rattle.std.proofs.Common.{◌≡◌, All, length}
-use Rattle.archive_btree_walking.specs.Refs.{IsThere}
+use Rattle.archive_btree_maps.specs.Refs.{IsThere}
 use Rattle.archive_btree_maps.specs.StdMaps.{IsPairSame, MayCallValue}
 use Rattle.archive_btree_maps.proofs.Same.{Left}
 use Rattle.archive_btree_maps.proofs.map.std_map.same_entries.Given as goal

@@ -2,7 +2,7 @@ use Rattle.std.proofs.Common.{◌≡◌, ◌∙◌, length, All, false, true, �
 use Rattle.std.proofs.lemmas.List.Elements.{All-head, All-tail}
 use Rattle.std.proofs.lemmas.Slice.Zip.{AllZip-long}
 use Rattle.archive_shape.specs.declared.references.refs.Ref.{Ref}
-use Rattle.archive_btree_nodes.specs.BtreeLayout.Tree.{items}
+use Rattle.archive_btree_layout.specs.Tree.{items}
 use Rattle.archive_btree_maps.proofs.Compared.{first_ended}
 use Rattle.archive_btree_maps.proofs.Held.{keys_are}
 use Rattle.archive_btree_maps.proofs.Matched.{IsEqualAt, moved, none_left, equal_at, unequal_at, decided}

@@ -1,5 +1,5 @@
 use Rattle.std.proofs.Common.{◌≡◌, ◌+◌, ◌-◌, ◌^◌, min, [], ◌∷◌, length, length-append, refl, ap, sym, arith}
-use Rattle.archive_shape_writing.specs.declared.error.Error.TheVariants.{IteratorLengthMismatch}
+use Rattle.archive_shape_layout.specs.declared.error.Error.TheVariants.{IteratorLengthMismatch}
 use Rattle.archive_btree_writing.proofs.Taken.{Yields-more}
 use Rattle.archive_btree_writing.proofs.building.claimed.finish.Goals as goal
 

@@ -1,9 +1,9 @@
 use Rattle.std.proofs.Common.{rules, ◌≡◌, ℕ, suc, ◌+◌, ◌-◌, ◌*◌, ◌/◌, ◌^◌, ◌<◌, ◌≤◌, min, [], length-set, set, replicate, take, refl, ap, sym, subst, ◌∙◌, arith}
 use Rattle.std.proofs.lemmas.List.{length-replicate}
-use Rattle.archive_shape_writing.specs.Writing.{WriterMembers}
-use Rattle.archive_shape_writing.specs.declared.error.Error.TheVariants.{IteratorLengthMismatch}
+use Rattle.archive_shape_layout.specs.Writing.{WriterMembers}
+use Rattle.archive_shape_layout.specs.declared.error.Error.TheVariants.{IteratorLengthMismatch}
 use Rattle.archive_btree_spelling.specs.Maps.{packed_spelling}
-use Rattle.archive_forms_values.specs.FormsLaws.Taking.{GivesAs}
+use Rattle.archive_forms_laws.specs.Taking.{GivesAs}
 use Rattle.archive_btree_writing.proofs.Taken.{take_set, on_err}
 use Rattle.archive_btree_writing.proofs.Closing.{none_built, ended_behind, cut_wider}
 use Rattle.archive_btree_writing.proofs.Widths.{ToGo, some_wide, inner_above, below_is, child_size, togo_none, togo_more, togo_room, togo_end}

@@ -1,8 +1,8 @@
 use Rattle.std.proofs.Common.{rules, ◌≡◌, ℕ, suc, ◌+◌, ◌-◌, ◌^◌, min, length, subst, inl, inr}
-use Rattle.archive_shape_writing.specs.Writing.{WriterMembers}
-use Rattle.archive_shape_writing.specs.declared.error.Error.TheVariants.{IteratorLengthMismatch}
+use Rattle.archive_shape_layout.specs.Writing.{WriterMembers}
+use Rattle.archive_shape_layout.specs.declared.error.Error.TheVariants.{IteratorLengthMismatch}
 use Rattle.archive_btree_spelling.specs.Maps.{packed_spelling}
-use Rattle.archive_forms_values.specs.FormsLaws.Taking.{GivesAs}
+use Rattle.archive_forms_laws.specs.Taking.{GivesAs}
 use Rattle.archive_btree_writing.specs.Built.{IsBuilt, IsCutShort}
 use Rattle.archive_btree_writing.proofs.Taken.{on_err}
 use Rattle.archive_btree_writing.proofs.Widths.{some_wide}

@@ -1,7 +1,7 @@
 use Rattle.std.proofs.Common.{ℕ, Bool, List, Result, Ok, Err, refl}
-use Rattle.archive_shape_writing.specs.Progress.{Progress, IsSame}
-use Rattle.archive_shape_writing.specs.Writing.{Appends}
-use Rattle.archive_shape_writing.specs.declared.error.Error.{Error}
+use Rattle.archive_shape_layout.specs.Progress.{Progress, IsSame}
+use Rattle.archive_shape_layout.specs.Writing.{Appends}
+use Rattle.archive_shape_layout.specs.declared.error.Error.{Error}
 use Rattle.archive_core_serializing.proofs.serializer.SerializerWriter.write.Goals as goal
 
 -- what a part of a writer appends, the writer appends

@@ -1,11 +1,11 @@
 use Rattle.std.proofs.Common.{ℕ, refl, subst, Ok, Err, arith}
 use Rattle.archive_shape.specs.Bytes.{zeros}
-use Rattle.archive_shape_writing.specs.Writing.{WriterMembers}
-use Rattle.archive_shape_writing.specs.Progress.{Starts}
-use Rattle.archive_shape_writing.specs.Progress.Progress.{unmet, begun}
+use Rattle.archive_shape_layout.specs.Writing.{WriterMembers}
+use Rattle.archive_shape_layout.specs.Progress.{Starts}
+use Rattle.archive_shape_layout.specs.Progress.Progress.{unmet, begun}
 use Rattle.archive_shape.specs.Sharing.{progress_of}
-use Rattle.archive_forms_writing.specs.FormsLaws.State.{with_begun}
-use Rattle.archive_forms_writing.specs.FormsLaws.Shared.{shared_padding}
+use Rattle.archive_forms_laws.specs.State.{with_begun}
+use Rattle.archive_forms_laws.specs.Shared.{shared_padding}
 use Rattle.archive_forms_writing.proofs.Laying.{Wrote, Fails}
 use Rattle.archive_core_serializing.specs.declared.serializer.Serializer.{Serializer}
 use Rattle.archive_core_serializing.proofs.Once.{pending, at_then, stopped_in_data, filled, stopped_in_pad, finished}

@@ -1,5 +1,5 @@
 use Rattle.std.proofs.Common.{◌∙◌}
-use Rattle.archive_shape_writing.specs.Writing.{WriterMembers}
+use Rattle.archive_shape_layout.specs.Writing.{WriterMembers}
 use Rattle.archive_core_serializing.proofs.Placed.{placed_wrote, placed_stopped}
 use Rattle.archive_core_serializing.proofs.writer_ext.AnyWriterExt.resolve_aligned.Goals as goal
 

@@ -6,10 +6,10 @@ use Rattle.archive_shape_layout.specs.Shape.Pointee.{sized}
 use Rattle.archive_shape_layout.specs.Value.{Value, Values}
 use Rattle.archive_shape_layout.specs.Value.Value.{natural, counted, group}
 use Rattle.archive_shape_layout.specs.Value.Values.{no_values, more_values}
-use Rattle.archive_shape_writing.specs.declared.error.Error.{Error}
-use Rattle.archive_shape_writing.specs.declared.error.Error.TheVariants.{OutOfMemory}
-use Rattle.archive_forms_values.specs.ShapeCanonical.Settled.{Fit}
-use Rattle.archive_forms_values.specs.FormsLaws.State.{SharedValue, Keys}
+use Rattle.archive_shape_layout.specs.declared.error.Error.{Error}
+use Rattle.archive_shape_layout.specs.declared.error.Error.TheVariants.{OutOfMemory}
+use Rattle.archive_shape_canonical.specs.Settled.{Fit}
+use Rattle.archive_forms_laws.specs.State.{SharedValue, Keys}
 use Rattle.archive_forms_rc.specs.declared.sharing.keyed.Shared.{Shared}
 use Rattle.archive_forms.specs.Reading.{reads_in, reads_counted, reads_tuple2}
 use Rattle.archive_core_tests.proofs.rc.keys.equal_numbers.Goals as goal

@@ -1,5 +1,5 @@
 use Rattle.std.proofs.Common.{arith}
-use Rattle.archive_shape_writing.specs.Writing.{WriterMembers}
+use Rattle.archive_shape_layout.specs.Writing.{WriterMembers}
 use Rattle.archive_example_player.proofs.Serialized.{level_stops, level_leaves, level_is_quiet, name_stops, name_leaves, name_is_quiet, scores_stop, player_serialized}
 use Rattle.archive_example_player.proofs.player.PlayerSerialize.serialize.Goals as goal
 

@@ -1,5 +1,5 @@
 use Rattle.std.proofs.Common.{arith, ◌≡◌, ◌*◌, List, ℕ, length, ap, sym, subst, ◌∙◌}
-use Rattle.archive_shape.specs.ShapeLayout.Shape.{size_of}
+use Rattle.archive_shape_layout.specs.Shape.{size_of}
 use Rattle.archive_forms_values.specs.Parts.{HasElements}
 use Rattle.archive_forms_values.proofs.Arrays.{array_has}
 use Rattle.archive_forms.specs.Deserializing.{AreReadFrom}

@@ -1,5 +1,5 @@
 use Rattle.std.proofs.Common.{sym, subst}
-use Rattle.archive_forms_laws.specs.ShapeCanonical.Sharing.{erased}
+use Rattle.archive_shape_canonical.specs.Sharing.{erased}
 use Rattle.archive_forms_values.proofs.Slices.{as_vector, has_vector}
 use Rattle.archive_forms.specs.Reading.{reads_all}
 use Rattle.archive_forms.proofs.deserializing.boxed_slices.deserialize_boxed_slice_each.Goals as goal

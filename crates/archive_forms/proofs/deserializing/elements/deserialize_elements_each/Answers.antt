@@ -1,5 +1,5 @@
 use Rattle.std.proofs.Common.{arith, ◌≡◌, ℕ, ◌+◌, ◌*◌, List, [], ◌∷◌, ◌++◌, length, length-append, sym, ap, subst, ◌∙◌}
-use Rattle.archive_shape.specs.ShapeLayout.Shape.{size_of}
+use Rattle.archive_shape_layout.specs.Shape.{size_of}
 use Rattle.archive_forms_values.proofs.Inside.{some_says}
 use Rattle.archive_forms.specs.Deserializing.{IsReadAt, AreReadFrom}
 use Rattle.archive_forms.proofs.Read.{element_has, element_ends_before, one_more, pushed}

@@ -1,4 +1,4 @@
-use Rattle.archive_shape.specs.ShapeLayout.Shape.Pointee.{sized, slice}
+use Rattle.archive_shape_layout.specs.Shape.Pointee.{sized, slice}
 use Rattle.archive_forms_rc.specs.Counted.{shared_rc_spelling, shared_slice_rc_spelling}
 use Rattle.archive_forms.proofs.Faithful.{option_faithful, result_faithful, boxed_faithful, vector_faithful, boxed_slice_faithful, array_faithful, shared_faithful, shared_slice_faithful, weak_faithful}
 use Rattle.archive_forms.proofs.deserializing.laws.forms_are_faithful.Goals as goal

@@ -1,4 +1,4 @@
-use Rattle.archive_shape.specs.ShapeLayout.Shape.Pointee.{str}
+use Rattle.archive_shape_layout.specs.Shape.Pointee.{str}
 use Rattle.archive_forms_rc.specs.Counted.{shared_str_rc_spelling}
 use Rattle.archive_forms.proofs.Faithful.{weak_faithful}
 use Rattle.archive_forms.proofs.deserializing.laws.texts_are_faithful.Goals as goal

@@ -1,6 +1,6 @@
 use Rattle.std.proofs.Common.{rules, ◌≡◌, length, sym, ap, subst, ◌∙◌}
 use Rattle.std.specs.Rc.{rc_str_bytes}
-use Rattle.archive_shape.specs.ShapeLayout.Bytes.{window}
+use Rattle.archive_shape_layout.specs.Bytes.{window}
 use Rattle.archive_shape.proofs.Pieces.{length-window}
 use Rattle.archive_forms.specs.Keeping.{IsTextAt}
 use Rattle.archive_forms.proofs.Counted.{rc_str_leads, rc_str_has, rc_str_read}

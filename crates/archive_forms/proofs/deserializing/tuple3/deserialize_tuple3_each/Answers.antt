@@ -1,5 +1,5 @@
 use Rattle.std.proofs.Common.{[], ◌∷◌}
-use Rattle.archive_shape.specs.ShapeLayout.Shape.Shapes.{no_shapes, more_shapes}
+use Rattle.archive_shape_layout.specs.Shape.Shapes.{no_shapes, more_shapes}
 use Rattle.archive_forms_values.specs.Fields.{field}
 use Rattle.archive_forms.proofs.Fields.{field_has, first_ends, field_ends, tuple_has, none_read, field_read, tuple_read}
 use Rattle.archive_forms.proofs.deserializing.tuple3.deserialize_tuple3_each.Goals as goal

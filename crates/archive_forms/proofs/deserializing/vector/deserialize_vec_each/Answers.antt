@@ -1,5 +1,5 @@
 use Rattle.std.proofs.Common.{arith, List, ℕ, ap, sym, subst}
-use Rattle.archive_shape.specs.ShapeLayout.Shape.Shape.{vector}
+use Rattle.archive_shape_layout.specs.Shape.Shape.{vector}
 use Rattle.archive_forms_values.specs.Parts.{HasElements}
 use Rattle.archive_forms.specs.Deserializing.{DeserializesAll}
 use Rattle.archive_forms.proofs.Read.{vec_has, elements_read}

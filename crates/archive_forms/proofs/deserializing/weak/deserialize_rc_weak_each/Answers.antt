@@ -2,7 +2,7 @@ use Rattle.std.proofs.Common.{false}
 use Rattle.std.specs.Global.{Global}
 use Rattle.std.specs.declared.rc.Rc.{Rc}
 use Rattle.archive_forms_rc.specs.declared.sharing.keyed.Shared.{Shared}
-use Rattle.archive_shape.specs.ShapeLayout.Shape.Pointee.{sized}
+use Rattle.archive_shape_layout.specs.Shape.Pointee.{sized}
 use Rattle.archive_forms.specs.Reading.{reads_in, reads_counted}
 use Rattle.archive_forms_rc.proofs.Tags.{pointer_has}
 use Rattle.archive_forms.proofs.ReadWeak.{nothing_read, pointer_read}

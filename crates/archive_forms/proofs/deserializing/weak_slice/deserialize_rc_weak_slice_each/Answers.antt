@@ -3,7 +3,7 @@ use Rattle.std.specs.Global.{Global}
 use Rattle.std.specs.declared.rc.RcSlice.{RcSlice}
 use Rattle.archive_forms_rc.specs.declared.sharing.keyed.Shared.{Shared}
 use Rattle.std.specs.Rc.{rc_slice_items}
-use Rattle.archive_shape.specs.ShapeLayout.Shape.Pointee.{slice}
+use Rattle.archive_shape_layout.specs.Shape.Pointee.{slice}
 use Rattle.archive_forms.specs.Reading.{reads_in, reads_counted, reads_all}
 use Rattle.archive_forms_rc.proofs.Tags.{pointer_has}
 use Rattle.archive_forms.proofs.ReadWeak.{nothing_read, pointer_read}

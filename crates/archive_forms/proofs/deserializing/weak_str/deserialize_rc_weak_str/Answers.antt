@@ -1,6 +1,6 @@
 use Rattle.std.proofs.Common.{false}
 use Rattle.std.specs.Prelude.{⊤}
-use Rattle.archive_shape.specs.ShapeLayout.Shape.Pointee.{str}
+use Rattle.archive_shape_layout.specs.Shape.Pointee.{str}
 use Rattle.archive_forms_rc.specs.Counted.{shared_str_rc_spelling}
 use Rattle.archive_forms.specs.Reading.{reads_as}
 use Rattle.archive_forms_rc.proofs.Tags.{pointer_has}

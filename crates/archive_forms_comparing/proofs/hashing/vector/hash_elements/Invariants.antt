@@ -1,6 +1,6 @@
 use Rattle.std.proofs.Common.{◌≡◌, drop}
 use Rattle.std.specs.List.{fold, flat_map}
-use Rattle.archive_shape.specs.ShapeLayout.Value.{Value}
+use Rattle.archive_shape_layout.specs.Value.{Value}
 use Rattle.archive_forms_laws.specs.Views.{elements_of}
 use Rattle.archive_forms_laws.specs.Orders.{vector_hashed}
 use Rattle.archive_forms_values.specs.Parts.{AreElements}

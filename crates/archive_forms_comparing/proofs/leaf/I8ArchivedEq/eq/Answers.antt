@@ -1,5 +1,5 @@
 use Rattle.std.proofs.Common.{rules, ◌≡◌}
-use Rattle.archive_shape.specs.ShapeLayout.Value.Value.{integer}
+use Rattle.archive_shape_layout.specs.Value.Value.{integer}
 use Rattle.archive_forms_laws.specs.Orders.{integer_equality}
 use Rattle.archive_forms_comparing.proofs.leaf.I8ArchivedEq.eq.Goals as goal
 

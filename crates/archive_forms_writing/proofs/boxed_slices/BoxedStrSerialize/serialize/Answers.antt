@@ -1,5 +1,5 @@
 use Rattle.std.proofs.Common.{ℕ, List, Ok, Err, ap, subst}
-use Rattle.archive_shape_writing.specs.Writing.{WriterMembers}
+use Rattle.archive_shape_layout.specs.Writing.{WriterMembers}
 use Rattle.archive_forms_laws.specs.Serializing.{Serializes}
 use Rattle.archive_forms_laws.specs.Texts.{boxed_text_spelling}
 use Rattle.archive_forms_values.specs.declared.reading.resolving.BoxResolver.{BoxResolver}

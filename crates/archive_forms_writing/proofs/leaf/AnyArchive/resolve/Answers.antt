@@ -1,6 +1,6 @@
 use Rattle.std.proofs.Common.{arith, ◌≡◌, length}
 use Rattle.std.proofs.lemmas.Grind.{common_steps}
-use Rattle.archive_shape.specs.ShapeLayout.Shape.{size_of}
+use Rattle.archive_shape_layout.specs.Shape.{size_of}
 use Rattle.archive_forms_writing.proofs.leaf.AnyArchive.resolve.Goals as goal
 
 pub returns : goal.returns

@@ -1,7 +1,7 @@
 use Rattle.std.proofs.Common.{rules, arith, ◌<◌, length-set, ◌∙◌}
-use Rattle.archive_forms_laws.specs.ShapeCanonical.FirstFit.{first_fit}
-use Rattle.archive_shape.specs.ShapeLayout.Shape.{size_of}
-use Rattle.archive_shape.specs.ShapeLayout.Shape.Shape.{option}
+use Rattle.archive_shape_canonical.specs.FirstFit.{first_fit}
+use Rattle.archive_shape_layout.specs.Shape.{size_of}
+use Rattle.archive_shape_layout.specs.Shape.Shape.{option}
 use Rattle.archive_forms_writing.proofs.Joining.{payload_place}
 use Rattle.archive_forms_writing.proofs.Options.{value_place, some_made, some_resolved}
 use Rattle.archive_forms_writing.proofs.option.OptionArchive.resolve.Goals as goal

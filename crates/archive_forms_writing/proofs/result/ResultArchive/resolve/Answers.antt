@@ -1,7 +1,7 @@
 use Rattle.std.proofs.Common.{rules, arith}
-use Rattle.archive_forms_laws.specs.ShapeCanonical.FirstFit.{first_fit}
-use Rattle.archive_shape.specs.ShapeLayout.Shape.{size_of}
-use Rattle.archive_shape.specs.ShapeLayout.Shape.Shape.{result as result_shape}
+use Rattle.archive_shape_canonical.specs.FirstFit.{first_fit}
+use Rattle.archive_shape_layout.specs.Shape.{size_of}
+use Rattle.archive_shape_layout.specs.Shape.Shape.{result as result_shape}
 use Rattle.archive_forms_writing.proofs.Results.{outcome_place, payload_can, payload_resolved, value_made, error_made, value_resolved, error_resolved}
 use Rattle.archive_forms_writing.proofs.result.ResultArchive.resolve.Goals as goal
 

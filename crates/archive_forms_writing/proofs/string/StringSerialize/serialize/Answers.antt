@@ -1,5 +1,5 @@
 use Rattle.std.proofs.Common.{ℕ, List, subst}
-use Rattle.archive_shape_writing.specs.Writing.{WriterMembers}
+use Rattle.archive_shape_layout.specs.Writing.{WriterMembers}
 use Rattle.archive_forms_laws.specs.Serializing.{Serializes}
 use Rattle.archive_forms_writing.specs.Owned.{str_spelling}
 use Rattle.archive_forms_writing.proofs.string.StringSerialize.serialize.Goals as goal

@@ -1,6 +1,6 @@
 use Rattle.std.proofs.Common.{ap, ◌+◌}
-use Rattle.archive_shape.specs.ShapeLayout.Shape.Shape.{tuple}
-use Rattle.archive_forms_laws.specs.ShapeCanonical.FirstFit.{first_fit}
+use Rattle.archive_shape_layout.specs.Shape.Shape.{tuple}
+use Rattle.archive_shape_canonical.specs.FirstFit.{first_fit}
 use Rattle.archive_forms_laws.specs.Fields.{no_fields, more_fields, struct_spelling}
 use Rattle.archive_forms_laws.specs.Serializing.{CanResolve}
 use Rattle.archive_forms_writing.specs.Fields.{field_at}

@@ -1,5 +1,5 @@
 use Rattle.std.proofs.Common.{rules}
-use Rattle.archive_shape.specs.ShapeLayout.Shape.Shape.{table}
+use Rattle.archive_shape_layout.specs.Shape.Shape.{table}
 use Rattle.archive_forms_values.specs.Tuples.{tuple2}
 use Rattle.archive_hash_probing.specs.Inputs.{input_hash}
 use Rattle.archive_hash.proofs.Resolved.{entries_resolve}

@@ -1,8 +1,8 @@
 use Rattle.std.proofs.Common.{rules, ◌∙◌, sym}
 use Rattle.std.proofs.lemmas.List.{length-map}
-use Rattle.archive_shape.specs.ShapeLayout.Shape.Shape.{tuple, table}
+use Rattle.archive_shape_layout.specs.Shape.Shape.{tuple, table}
 use Rattle.archive_forms_values.specs.Tuples.{tuple2}
-use Rattle.archive_shape.specs.ShapeLayout.Shape.Shapes.{no_shapes}
+use Rattle.archive_shape_layout.specs.Shape.Shapes.{no_shapes}
 use Rattle.archive_forms_laws.specs.Fields.{unit_spelling}
 use Rattle.archive_hash_probing.specs.Inputs.{input_hash}
 use Rattle.archive_hash.specs.Owned.{key_entries}

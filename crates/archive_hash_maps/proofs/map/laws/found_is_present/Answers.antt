@@ -1,6 +1,6 @@
-use Rattle.archive_hash_walking.specs.Maps.{HashesTo, value_at}
-use Rattle.archive_hash_walking.proofs.Found.{found_is_present}
-use Rattle.archive_hash_walking.proofs.Roots.{places_of_value}
+use Rattle.archive_hash_maps.specs.Maps.{HashesTo, value_at}
+use Rattle.archive_hash_maps.proofs.Found.{found_is_present}
+use Rattle.archive_hash_maps.proofs.Roots.{places_of_value}
 use Rattle.archive_hash_maps.proofs.map.laws.found_is_present.Goals as goal
 
 pub returns : goal.returns

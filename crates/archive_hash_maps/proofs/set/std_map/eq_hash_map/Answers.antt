@@ -1,6 +1,6 @@
 use Rattle.std.proofs.Common.{◌∙◌, true, [], ◌∷◌, All, Contains, inr, sym, subst}
 use Rattle.std.proofs.lemmas.List.Elements.{All-nil, All-cons, Contains-append_right}
-use Rattle.archive_hash_walking.specs.Maps.{HashesTo}
+use Rattle.archive_hash_maps.specs.Maps.{HashesTo}
 use Rattle.archive_hash_maps.specs.StdMaps.{LeadsTo}
 use Rattle.archive_hash_maps.proofs.Same.{first_among}
 use Rattle.archive_hash_maps.proofs.set.std_map.eq_hash_map.Goals as goal

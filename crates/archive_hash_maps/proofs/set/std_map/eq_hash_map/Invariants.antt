@@ -1,7 +1,7 @@
 use Rattle.std.proofs.Common.{true, All, Contains}
 use Rattle.archive_forms_values.specs.Tuples.{tuple2}
-use Rattle.archive_hash_walking.specs.Tables.{Buckets, IsTableAt}
-use Rattle.archive_hash_walking.specs.Maps.{HashesTo}
+use Rattle.archive_hash_maps.specs.Tables.{Buckets, IsTableAt}
+use Rattle.archive_hash_maps.specs.Maps.{HashesTo}
 use Rattle.archive_hash_maps.specs.StdMaps.{LeadsTo}
 use Rattle.archive_hash_maps.proofs.set.std_map.eq_hash_map.Given as goal
 

@@ -1,7 +1,7 @@
 use Rattle.std.proofs.Common.{Some, None, refl, subst}
 use Rattle.archive_forms_values.specs.Tuples.{tuple2}
-use Rattle.archive_hash_walking.specs.Maps.{KeySays, value_at}
-use Rattle.archive_hash_walking.proofs.LookedUp.{looks_up_as}
+use Rattle.archive_hash_maps.specs.Maps.{KeySays, value_at}
+use Rattle.archive_hash_maps.proofs.LookedUp.{looks_up_as}
 use Rattle.archive_hash_maps.proofs.Same.{found_in}
 use Rattle.archive_hash_maps.proofs.set.std_map.leads_to.Goals as goal
 

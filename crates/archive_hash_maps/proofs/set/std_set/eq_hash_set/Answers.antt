@@ -1,6 +1,6 @@
 use Rattle.std.proofs.Common.{◌∙◌, true, [], ◌∷◌, All, Contains, inr, sym, subst}
 use Rattle.std.proofs.lemmas.List.Elements.{All-nil, All-cons, Contains-append_right}
-use Rattle.archive_hash_walking.specs.Maps.{HashesTo}
+use Rattle.archive_hash_maps.specs.Maps.{HashesTo}
 use Rattle.archive_hash_maps.specs.StdMaps.{IsSaid}
 use Rattle.archive_hash_maps.proofs.Same.{first_among}
 use Rattle.archive_hash_maps.proofs.set.std_set.eq_hash_set.Goals as goal

@@ -1,6 +1,6 @@
 use Rattle.std.proofs.Common.{true, All, Contains}
-use Rattle.archive_hash_walking.specs.Tables.{Buckets}
-use Rattle.archive_hash_walking.specs.Maps.{HashesTo}
+use Rattle.archive_hash_maps.specs.Tables.{Buckets}
+use Rattle.archive_hash_maps.specs.Maps.{HashesTo}
 use Rattle.archive_hash_maps.specs.Sets.{IsSetAt}
 use Rattle.archive_hash_maps.specs.StdMaps.{IsSaid}
 use Rattle.archive_hash_maps.proofs.set.std_set.eq_hash_set.Given as goal

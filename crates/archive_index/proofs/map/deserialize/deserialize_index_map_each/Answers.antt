@@ -1,5 +1,5 @@
 use Rattle.std.proofs.Common.{arith, List, ℕ, ap, subst}
-use Rattle.archive_shape.specs.ShapeLayout.Shape.Shape.{index_map}
+use Rattle.archive_shape_layout.specs.Shape.Shape.{index_map}
 use Rattle.archive_forms_values.specs.Tuples.{tuple2}
 use Rattle.archive_forms_values.specs.Parts.{AreElements, both}
 use Rattle.archive_forms.specs.Deserializing.{DeserializesAll}

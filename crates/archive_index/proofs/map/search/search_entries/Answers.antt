@@ -1,16 +1,16 @@
 use Rattle.std.proofs.Common.{◌∙◌, ◌+◌, ◌*◌, Some, None, ap, sym, subst, arith, All}
 use Rattle.std.specs.Prelude.{slice_index_or}
 use Rattle.std.specs.Option.{option_map}
-use Rattle.archive_forms_writing.specs.FormsLaws.SpellingLaws.{KnowsAll}
-use Rattle.archive_shape.specs.ShapeLayout.Bytes.{word_at}
-use Rattle.archive_shape.specs.ShapeLayout.Shape.{size_of}
+use Rattle.archive_forms_laws.specs.SpellingLaws.{KnowsAll}
+use Rattle.archive_shape_layout.specs.Bytes.{word_at}
+use Rattle.archive_shape_layout.specs.Shape.{size_of}
 use Rattle.archive_forms_values.specs.Tuples.{tuple2}
 use Rattle.archive_forms_values.specs.Parts.{HasValue}
-use Rattle.archive_hash.specs.HashWalking.Tables.{item_positions}
-use Rattle.archive_hash.specs.HashWalking.Places.{Answers}
-use Rattle.archive_hash.proofs.HashWalking.Read.{one_table}
-use Rattle.archive_hash.proofs.HashWalking.Lookups.{found_there, some_item}
-use Rattle.archive_forms_writing.specs.FormsLaws.Sample.{number_shape}
+use Rattle.archive_hash_maps.specs.Tables.{item_positions}
+use Rattle.archive_hash_maps.specs.Places.{Answers}
+use Rattle.archive_hash_maps.proofs.Read.{one_table}
+use Rattle.archive_hash_maps.proofs.Lookups.{found_there, some_item}
+use Rattle.archive_forms_laws.specs.Sample.{number_shape}
 use Rattle.archive_index.proofs.Standing.{map_of, has_table, NamesEntry, numbers_name}
 use Rattle.archive_index.proofs.map.search.search_entries.Goals as goal
 

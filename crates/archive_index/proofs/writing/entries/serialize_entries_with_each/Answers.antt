@@ -1,5 +1,5 @@
-use Rattle.archive_shape_writing.specs.Writing.{WriterMembers}
-use Rattle.archive_forms_borrowed.proofs.Parts.{parts_written}
+use Rattle.archive_shape_layout.specs.Writing.{WriterMembers}
+use Rattle.archive_forms_writing.proofs.Parts.{parts_written}
 use Rattle.archive_index.proofs.writing.entries.serialize_entries_with_each.Goals as goal
 
 pub serialize_pairs_each-requires-clause-takes : goal.serialize_pairs_each-requires-clause-takes

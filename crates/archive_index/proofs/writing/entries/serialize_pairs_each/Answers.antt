@@ -1,12 +1,12 @@
 use Rattle.std.proofs.Common.{◌∙◌, ℕ, List, arith, ap, sym, subst, inl, length}
-use Rattle.archive_shape_writing.specs.Writing.{WriterMembers}
+use Rattle.archive_shape_layout.specs.Writing.{WriterMembers}
 use Rattle.archive_forms_values.specs.Tuples.{tuple2}
-use Rattle.archive_forms_writing.specs.FormsLaws.Fields.{tuple2_spelling}
-use Rattle.archive_forms_writing.specs.FormsLaws.Serializing.{Serializes, of_data}
+use Rattle.archive_forms_laws.specs.Fields.{tuple2_spelling}
+use Rattle.archive_forms_laws.specs.Serializing.{Serializes, of_data}
 use Rattle.archive_forms_writing.proofs.Laying.{stopped_before}
 use Rattle.archive_hash_probing.specs.Inputs.{input_hash}
-use Rattle.archive_hash.proofs.HashWriting.Hashed.{hashes_even}
-use Rattle.archive_index_spelling.specs.Resolvers.{pairs_spelling, written_map}
+use Rattle.archive_hash_writing.proofs.Hashed.{hashes_even}
+use Rattle.archive_hash_writing.specs.IndexResolvers.{pairs_spelling, written_map}
 use Rattle.archive_index.proofs.TableAndEntries.{hashes_computed}
 use Rattle.archive_index.proofs.writing.entries.serialize_pairs_each.Goals as goal
 

@@ -1,10 +1,10 @@
 use Rattle.std.proofs.Common.{◌≡◌, ◌∙◌, arith, ap, sym, inl, length, Ok, Err}
 use Rattle.std.proofs.lemmas.List.FromFn.{length-range_with_len}
-use Rattle.archive_shape_writing.specs.Writing.{WriterMembers}
-use Rattle.archive_forms_writing.specs.FormsLaws.Spelling.{state_after}
-use Rattle.archive_forms_writing.specs.FormsLaws.Sample.{number_shape, number_spelling}
-use Rattle.archive_hash.specs.HashWriting.Claimed.{written_spelling}
-use Rattle.archive_index_spelling.specs.Maps.{numbers}
+use Rattle.archive_shape_layout.specs.Writing.{WriterMembers}
+use Rattle.archive_forms_laws.specs.Spelling.{state_after}
+use Rattle.archive_forms_laws.specs.Sample.{number_shape, number_spelling}
+use Rattle.archive_hash_writing.specs.Claimed.{written_spelling}
+use Rattle.archive_hash_writing.specs.IndexMaps.{numbers}
 use Rattle.archive_index.proofs.TableAndEntries.{behind, nothing_written, of_numbers, stopped_at_once, refused_first, stopped_in_table, stopped_in_entries, map_written}
 use Rattle.archive_index.proofs.writing.hashed.serialize_hashed_map.Goals as goal
 

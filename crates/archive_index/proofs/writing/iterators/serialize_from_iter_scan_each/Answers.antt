@@ -1,12 +1,12 @@
 use Rattle.std.proofs.Common.{ℕ, ◌∙◌, List, Err, arith, ap, refl, sym, subst, inl, inr, length, rules}
 use Rattle.std.specs.Fn.{FnReturnsAt}
-use Rattle.archive_shape_writing.specs.Writing.{WriterMembers}
-use Rattle.archive_forms_writing.specs.FormsLaws.Serializing.{Serializes}
+use Rattle.archive_shape_layout.specs.Writing.{WriterMembers}
+use Rattle.archive_forms_laws.specs.Serializing.{Serializes}
 use Rattle.archive_forms_writing.specs.Steps.{IsElement, StepTakes}
 use Rattle.archive_hash_probing.specs.Loads.{IsLoadFactor}
-use Rattle.archive_hash.specs.HashWriting.Claimed.{AreHashesOf}
-use Rattle.archive_hash.proofs.HashWriting.Hashed.{hashes_even}
-use Rattle.archive_index_spelling.specs.Resolvers.{written_map}
+use Rattle.archive_hash_writing.specs.Claimed.{AreHashesOf}
+use Rattle.archive_hash_writing.proofs.Hashed.{hashes_even}
+use Rattle.archive_hash_writing.specs.IndexResolvers.{written_map}
 use Rattle.archive_index.proofs.writing.iterators.serialize_from_iter_scan_each.Goals as goal
 
 pub returns-in-Err : goal.returns-in-Err

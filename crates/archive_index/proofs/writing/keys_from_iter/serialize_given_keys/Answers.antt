@@ -1,16 +1,16 @@
 use Rattle.std.proofs.Common.{◌∙◌, ap, map, subst}
 use Rattle.std.specs.Iterator.{Drains}
-use Rattle.archive_forms_writing.specs.FormsLaws.Fields.{unit_spelling}
+use Rattle.archive_forms_laws.specs.Fields.{unit_spelling}
 use Rattle.archive_hash.specs.Given.{entry_of, key_entry}
 use Rattle.archive_index.specs.Sets.{unit_shape}
-use Rattle.archive_shape_writing.specs.Writing.{WriterMembers}
+use Rattle.archive_shape_layout.specs.Writing.{WriterMembers}
 use Rattle.archive_forms_values.specs.Tuples.{tuple2}
-use Rattle.archive_forms_writing.specs.FormsLaws.Taking.{GivesAs}
-use Rattle.archive_forms_writing.specs.FormsLaws.Fields.{tuple2_spelling}
-use Rattle.archive_forms_borrowed.specs.Entries.{entry_spelling}
+use Rattle.archive_forms_laws.specs.Taking.{GivesAs}
+use Rattle.archive_forms_laws.specs.Fields.{tuple2_spelling}
+use Rattle.archive_forms_writing.specs.Entries.{entry_spelling}
 use Rattle.archive_hash_probing.specs.Inputs.{input_hash}
 use Rattle.archive_hash.proofs.Given.{keys_came, pairs_written}
-use Rattle.archive_index_spelling.specs.Resolvers.{written_map}
+use Rattle.archive_hash_writing.specs.IndexResolvers.{written_map}
 use Rattle.archive_index.proofs.Pairs.{pairs_said}
 use Rattle.archive_index.proofs.writing.keys_from_iter.serialize_given_keys.Goals as goal
 

@@ -4,7 +4,7 @@ use Rattle.std.specs.Int.{w64}
 use Rattle.archive_shape_layout.specs.Shape.Shape.{number, truth, text, shared, option, box, vector, tree, table, index_map}
 use Rattle.archive_shape_layout.specs.Shape.Pointee.{sized, str}
 use Rattle.archive_forms_values.specs.Parts.{both}
-use Rattle.archive_forms_values.proofs.FormsLaws.Levels.{option_box_sized}
+use Rattle.archive_forms_laws.proofs.Levels.{option_box_sized}
 use Rattle.cabinet_documents.specs.Node.{node_shape, pair_shape, whole_shape, KnowsNode}
 use Rattle.cabinet_archived.proofs.Nodes.{tagged_at, is_whole}
 use Rattle.cabinet_archived.proofs.node.ArchivedNode.kind.Goals as goal

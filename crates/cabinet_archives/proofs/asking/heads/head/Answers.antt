@@ -2,19 +2,19 @@ use Rattle.std.proofs.Common.{sym, subst, ap, ◌∙◌, Bor, List, ℕ, to_z, o
 use Rattle.std.proofs.lemmas.Int.{to_z-of_z}
 use Rattle.std.specs.Prelude.{true, false, ⊤}
 use Rattle.std.specs.Int.{w64}
-use Rattle.archive_shape.specs.ShapeLayout.Bytes.{window}
-use Rattle.archive_shape.specs.ShapeLayout.Shape.Shape.{number, truth, text}
-use Rattle.archive_shape.specs.ShapeLayout.Shape.Pointee.{str}
-use Rattle.archive_shape.specs.ShapeLayout.Value.Value.{integer}
+use Rattle.archive_shape_layout.specs.Bytes.{window}
+use Rattle.archive_shape_layout.specs.Shape.Shape.{number, truth, text}
+use Rattle.archive_shape_layout.specs.Shape.Pointee.{str}
+use Rattle.archive_shape_layout.specs.Value.Value.{integer}
 use Rattle.archive_shape.specs.Key.{HeldAt}
-use Rattle.archive_forms_values.specs.FormsLaws.Text.{HasText, IsText}
+use Rattle.archive_forms_laws.specs.Text.{HasText, IsText}
 use Rattle.archive_forms_rc.specs.Pointers.{HasCounted, IsRcStrAt}
 use Rattle.archive_forms_values.specs.Parts.{IsNoneAt, IsSomeAt, IsVecAt}
-use Rattle.archive_btree_walking.specs.Maps.{IsMapAt}
-use Rattle.archive_hash_walking.specs.Tables.{IsTableAt}
-use Rattle.cabinet_text_nodes.specs.TextGrammar.Tree as tree
-use Rattle.cabinet_archived.specs.Documents.Node.{node_shape, pair_shape, KnowsNode}
-use Rattle.cabinet_archived.specs.Index.Maps.{IsMapAt as IsIndexAt}
+use Rattle.archive_btree_maps.specs.Maps.{IsMapAt}
+use Rattle.archive_hash_maps.specs.Tables.{IsTableAt}
+use Rattle.cabinet_text_grammar.specs.Tree as tree
+use Rattle.cabinet_documents.specs.Node.{node_shape, pair_shape, KnowsNode}
+use Rattle.archive_index.specs.Maps.{IsMapAt as IsIndexAt}
 use Rattle.cabinet_archived.proofs.Shared.{counted_there}
 use Rattle.cabinet_archives.proofs.Ways.{Boxed}
 use Rattle.cabinet_archives.proofs.Payloads.{text_has, text_is, leaf_head, shared_head, none_head, some_head, list_head, ordered_head, hashed_head, kept_head, whole_is_head}

@@ -2,9 +2,9 @@ use Rattle.std.proofs.Common.{ap, sym, subst, ◌∙◌, flat_map}
 use Rattle.std.specs.Prelude.{⊤, All}
 use Rattle.std.proofs.lemmas.List.Elements.{All-head, All-tail}
 use Rattle.std.proofs.lemmas.Result.{err_from_is_err_and}
-use Rattle.archive_shape.specs.ShapeLayout.Shape.Shape.{text}
-use Rattle.archive_btree_walking.specs.Refs.{IsThere}
-use Rattle.cabinet_archived.specs.Documents.Node.{node_shape, KnowsNode}
+use Rattle.archive_shape_layout.specs.Shape.Shape.{text}
+use Rattle.archive_btree_maps.specs.Refs.{IsThere}
+use Rattle.cabinet_documents.specs.Node.{node_shape, KnowsNode}
 use Rattle.cabinet_text_nodes.proofs.Pieces.{none_before, one_more, one_failed, all_written}
 use Rattle.cabinet_archives.proofs.Payloads.{text_has}
 use Rattle.cabinet_archives.proofs.Texts.{text_is}

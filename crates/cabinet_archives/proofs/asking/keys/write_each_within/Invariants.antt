@@ -1,7 +1,7 @@
 use Rattle.std.specs.Prelude.{⊤, All}
-use Rattle.archive_shape.specs.ShapeLayout.Shape.Shape.{text}
-use Rattle.archive_btree_walking.specs.Refs.{IsThere}
-use Rattle.cabinet_archived.specs.Documents.Node.{node_shape, KnowsNode}
+use Rattle.archive_shape_layout.specs.Shape.Shape.{text}
+use Rattle.archive_btree_maps.specs.Refs.{IsThere}
+use Rattle.cabinet_documents.specs.Node.{node_shape, KnowsNode}
 use Rattle.cabinet_text_nodes.proofs.Pieces.{AreWrittenBefore}
 use Rattle.cabinet_archives.proofs.Within.{entry_piece}
 use Rattle.cabinet_archives.proofs.asking.keys.write_each_within.Given as goal

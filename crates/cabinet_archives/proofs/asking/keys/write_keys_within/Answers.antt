@@ -2,9 +2,9 @@ use Rattle.std.proofs.Common.{◌∙◌, inl, refl, sym, arith}
 use Rattle.std.proofs.lemmas.Iterator.Consumers.{YieldsList-from_first, count_from_yields_List}
 use Rattle.std.specs.List.{filter}
 use Rattle.std.proofs.lemmas.Result.{err_from_is_err_and}
-use Rattle.archive_shape.specs.ShapeLayout.Content.{members}
-use Rattle.cabinet_text_nodes.specs.TextGrammar.Answering.{lies_within}
-use Rattle.cabinet_archived.specs.Documents.Table.{item_keys}
+use Rattle.archive_shape_layout.specs.Content.{members}
+use Rattle.cabinet_text_grammar.specs.Answering.{lies_within}
+use Rattle.cabinet_documents.specs.Table.{item_keys}
 use Rattle.cabinet_text_nodes.proofs.Pieces.{keys_appended, keys_head_failed, keys_failed}
 use Rattle.cabinet_archives.proofs.Within.{run_counted, within_counted}
 use Rattle.cabinet_archives.proofs.asking.keys.write_keys_within.Goals as goal

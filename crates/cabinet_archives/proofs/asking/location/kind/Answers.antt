@@ -1,8 +1,8 @@
 use Rattle.std.specs.Prelude.{true, false, ⊤}
 use Rattle.std.specs.Int.{w64}
-use Rattle.archive_shape.specs.ShapeLayout.Shape.Shape.{number, truth, text, shared, option, vector}
-use Rattle.archive_shape.specs.ShapeLayout.Shape.Pointee.{str}
-use Rattle.cabinet_archived.specs.Documents.Node.{node_shape, KnowsNode, whole_shape}
+use Rattle.archive_shape_layout.specs.Shape.Shape.{number, truth, text, shared, option, vector}
+use Rattle.archive_shape_layout.specs.Shape.Pointee.{str}
+use Rattle.cabinet_documents.specs.Node.{node_shape, KnowsNode, whole_shape}
 use Rattle.cabinet_archives.specs.Hashed.{table_shape}
 use Rattle.cabinet_archives.specs.Kept.{index_shape}
 use Rattle.cabinet_archives.specs.Keyed.{knows_pairs}

@@ -1,7 +1,7 @@
 use Rattle.std.proofs.Common.{◌≡◌, ap, sym, subst, ◌∙◌, Some, Bor, List, ℕ}
 use Rattle.std.specs.Option.{option_map}
 use Rattle.cabinet_text_nodes.specs.Kinds.{kind_of}
-use Rattle.cabinet_text_nodes.specs.TextGrammar.Path.{enters}
+use Rattle.cabinet_text_grammar.specs.Path.{enters}
 use Rattle.cabinet_text_nodes.specs.View.{path_of}
 use Rattle.cabinet_archives.specs.Found.{OfDocument, Reaches}
 use Rattle.cabinet_archives.proofs.Ways.{of_none, of_some}

@@ -1,7 +1,7 @@
 use Rattle.std.proofs.Common.{◌≡◌, ◌∙◌}
 use Rattle.std.specs.Option.{option_map}
 use Rattle.cabinet_text_nodes.specs.Kinds.{kind_of}
-use Rattle.cabinet_text_nodes.specs.TextGrammar.Path.{node_at}
+use Rattle.cabinet_text_grammar.specs.Path.{node_at}
 use Rattle.cabinet_text_nodes.specs.View.{path_of}
 use Rattle.cabinet_archives.proofs.Exact.{of_accepted, counted_exactly}
 use Rattle.cabinet_archives.proofs.Reached.{root_has_value, root_is_sound, value_as, sound_as}

@@ -4,7 +4,7 @@ use Rattle.archive_shape.specs.Key.{HeldAt}
 use Rattle.cabinet_text_nodes.specs.Answers.{Tells}
 use Rattle.cabinet_archives.specs.Keyed.{knows_pairs}
 use Rattle.cabinet_archives.specs.Ordered.{map_shape}
-use Rattle.archive_shape.specs.ShapeLayout.Content.Part.{at}
+use Rattle.archive_shape_layout.specs.Content.Part.{at}
 use Rattle.cabinet_archives.specs.Sound.{IsSoundPart}
 use Rattle.std.proofs.Math.Logic.{∥∥₁_map}
 use Rattle.cabinet_archives.proofs.Soundness.{payload_sound}

@@ -7,7 +7,7 @@ use Rattle.cabinet_archives.proofs.Paths.{path_through, path_parts}
 use Rattle.cabinet_archives.proofs.Ways.{of_none, of_some, reaches_self, reaches_on, none_after, none_before}
 use Rattle.cabinet_archives.proofs.asking.walk.find_counted.Goals.{then-found, else-found}
 use Rattle.cabinet_archives.proofs.asking.walk.find_counted.Goals as goal
-use Rattle.cabinet_text_nodes.specs.TextGrammar.Path.{enters}
+use Rattle.cabinet_text_grammar.specs.Path.{enters}
 use Rattle.cabinet_archives.proofs.Entering.{enters_nil, enters_on}
 
 pub loop-step-init : goal.loop-step-init

@@ -1,5 +1,5 @@
 use Rattle.std.proofs.Common.{◌≡◌, take}
-use Rattle.cabinet_text_nodes.specs.TextGrammar.Path.{enters}
+use Rattle.cabinet_text_grammar.specs.Path.{enters}
 use Rattle.cabinet_text_nodes.specs.View.{path_of}
 use Rattle.cabinet_archives.specs.Cost.{CountsPath}
 use Rattle.cabinet_archives.specs.Found.{OfDocument, Reaches}

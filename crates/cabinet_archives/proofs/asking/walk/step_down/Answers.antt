@@ -1,10 +1,10 @@
 use Rattle.std.proofs.Common.{◌≡◌, refl, ap, sym, subst, ◌∙◌, arith, Bor, List, ℕ, false, MatchOption}
 use Rattle.std.specs.Prelude.{IfSome}
-use Rattle.archive_shape.specs.ShapeLayout.Content.Part.{at}
+use Rattle.archive_shape_layout.specs.Content.Part.{at}
 use Rattle.archive_forms_values.specs.Parts.{HasValue, IsNoneAt, IsSomeAt, IsBoxAt, IsVecAt}
 use Rattle.archive_forms_rc.specs.Pointers.{IsRcAt}
-use Rattle.cabinet_archived.specs.Documents.Node.{node_shape, KnowsNode}
-use Rattle.cabinet_text_nodes.specs.TextGrammar.Path.{key as key_step}
+use Rattle.cabinet_documents.specs.Node.{node_shape, KnowsNode}
+use Rattle.cabinet_text_grammar.specs.Path.{key as key_step}
 use Rattle.cabinet_text_nodes.specs.View.{step_of}
 use Rattle.cabinet_archives.specs.Hashed.{table_shape, HasBucket}
 use Rattle.cabinet_archives.specs.Kept.{index_shape, HasNumbered}

@@ -1,9 +1,9 @@
 use Rattle.std.proofs.Common.{◌≡◌, ℕ, ◌+◌, ◌++◌, ◌∷◌, [], Bor, List, map, sym, ap, ap₂, subst, ◌∙◌, append-nil, append_assoc}
 use Rattle.std.specs.Prelude.{⊤, All}
 use Rattle.std.proofs.lemmas.List.Elements.{All-nil, All-head, All-tail}
-use Rattle.archive_shape.specs.ShapeLayout.Value.Value.{string}
-use Rattle.archive_forms_values.specs.FormsLaws.Text.{HasText, IsText}
-use Rattle.cabinet_archived.specs.Documents.Denotes.{tagged_value}
+use Rattle.archive_shape_layout.specs.Value.Value.{string}
+use Rattle.archive_forms_laws.specs.Text.{HasText, IsText}
+use Rattle.cabinet_documents.specs.Denotes.{tagged_value}
 use Rattle.cabinet_archives.specs.Hashed.{table_shape}
 use Rattle.cabinet_archives.specs.Keyed.{knows_pairs}
 use Rattle.cabinet_archives.specs.Loading.{HasTree, OfTree, IsEntry, LeadTo}

@@ -1,6 +1,6 @@
 use Rattle.std.proofs.Common.{◌≡◌, ℕ, ◌+◌, ◌++◌, map}
 use Rattle.std.specs.Prelude.{All}
-use Rattle.cabinet_archived.specs.Documents.Denotes.{tagged_value}
+use Rattle.cabinet_documents.specs.Denotes.{tagged_value}
 use Rattle.cabinet_archives.specs.Hashed.{table_shape}
 use Rattle.cabinet_archives.specs.Keyed.{knows_pairs}
 use Rattle.cabinet_archives.specs.Loading.{HasTree, OfTree, IsEntry}

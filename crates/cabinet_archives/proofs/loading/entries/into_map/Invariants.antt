@@ -1,6 +1,6 @@
 use Rattle.std.proofs.Common.{◌≡◌, List, length}
 use Rattle.std.specs.Vec.Iter.{into_iter_items, into_iter_len}
-use Rattle.cabinet_text_nodes.specs.TextGrammar.Tree.{Tree, no_pairs}
+use Rattle.cabinet_text_grammar.specs.Tree.{Tree, no_pairs}
 use Rattle.cabinet_text_nodes.specs.View.{node_pairs}
 use Rattle.cabinet_archives.specs.Loading.{all_added}
 use Rattle.cabinet_archives.proofs.loading.entries.into_map.Given as goal

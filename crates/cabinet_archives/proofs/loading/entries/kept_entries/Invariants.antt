@@ -1,7 +1,7 @@
 use Rattle.std.proofs.Common.{◌≡◌, ◌++◌, map}
-use Rattle.archive_shape.specs.ShapeLayout.Shape.Shape.{text}
-use Rattle.cabinet_archived.specs.Documents.Node.{node_shape}
-use Rattle.cabinet_archived.specs.Index.Maps.{entry_positions}
+use Rattle.archive_shape_layout.specs.Shape.Shape.{text}
+use Rattle.cabinet_documents.specs.Node.{node_shape}
+use Rattle.archive_index.specs.Maps.{entry_positions}
 use Rattle.cabinet_archives.specs.Kept.{OfKept}
 use Rattle.cabinet_archives.proofs.LoadedEntries.{positions}
 use Rattle.cabinet_archives.proofs.LoadedMaps.{pairs_at}

@@ -1,9 +1,9 @@
 use Rattle.std.proofs.Common.{◌≡◌, ◌++◌, map}
-use Rattle.archive_shape.specs.ShapeLayout.Shape.Shape.{text}
-use Rattle.archive_btree_walking.specs.BtreeLayout.Reading.{Place}
-use Rattle.archive_btree_walking.specs.BtreeLayout.Tree.{Tree as SearchTree, items}
-use Rattle.archive_btree_walking.specs.Maps.{IsMapAt}
-use Rattle.cabinet_archived.specs.Documents.Node.{node_shape}
+use Rattle.archive_shape_layout.specs.Shape.Shape.{text}
+use Rattle.archive_btree_layout.specs.Reading.{Place}
+use Rattle.archive_btree_layout.specs.Tree.{Tree as SearchTree, items}
+use Rattle.archive_btree_maps.specs.Maps.{IsMapAt}
+use Rattle.cabinet_documents.specs.Node.{node_shape}
 use Rattle.cabinet_archives.proofs.LoadedEntries.{positions}
 use Rattle.cabinet_archives.proofs.LoadedMaps.{entries_at}
 use Rattle.cabinet_archives.proofs.loading.entries.ordered_entries.Given as goal

@@ -1,5 +1,5 @@
 use Rattle.std.proofs.Common.{◌≡◌, ◌∙◌, ap, arith}
-use Rattle.cabinet_text_nodes.specs.TextGrammar.Wholes.{with_wholes, wholes_of}
+use Rattle.cabinet_text_grammar.specs.Wholes.{with_wholes, wholes_of}
 use Rattle.cabinet_text_nodes.specs.View.{node_tree}
 use Rattle.cabinet_archives.specs.Found.{OfDocument}
 use Rattle.cabinet_archives.specs.Loading.{IsLoaded, loaded_table}

@@ -3,20 +3,20 @@ use Rattle.std.specs.Prelude.{All, IfSome, true, false, ⊤}
 use Rattle.std.specs.Int.{w64}
 use Rattle.std.proofs.lemmas.Int.{to_z-of_z}
 use Rattle.std.proofs.lemmas.List.{drop_all}
-use Rattle.archive_shape.specs.ShapeLayout.Bytes.{window}
-use Rattle.archive_shape.specs.ShapeLayout.Shape.Shape.{number, truth, text, option, vector}
-use Rattle.archive_shape.specs.ShapeLayout.Shape.Pointee.{str}
-use Rattle.archive_shape.specs.ShapeLayout.Value.Value.{integer, string}
+use Rattle.archive_shape_layout.specs.Bytes.{window}
+use Rattle.archive_shape_layout.specs.Shape.Shape.{number, truth, text, option, vector}
+use Rattle.archive_shape_layout.specs.Shape.Pointee.{str}
+use Rattle.archive_shape_layout.specs.Value.Value.{integer, string}
 use Rattle.archive_shape.specs.Key.{HeldAt}
 use Rattle.archive_forms_rc.specs.Pointers.{HasCounted, IsRcStrAt}
-use Rattle.archive_forms_values.specs.FormsLaws.Text.{HasText, IsText}
+use Rattle.archive_forms_laws.specs.Text.{HasText, IsText}
 use Rattle.archive_forms_values.specs.Parts.{IsBoxAt}
 use Rattle.archive_forms_values.proofs.Inside.{some_says}
-use Rattle.cabinet_text_nodes.specs.TextGrammar.Tree as tree
-use Rattle.cabinet_text_nodes.specs.TextGrammar.Tree.{Pairs, IsLegal}
-use Rattle.cabinet_text_nodes.specs.TextGrammar.Wholes.{numbered, with_tree, with_wholes}
-use Rattle.cabinet_archived.specs.Documents.Denotes.{tagged_value}
-use Rattle.cabinet_archived.specs.Documents.Node.{node_shape, whole_shape, KnowsNode}
+use Rattle.cabinet_text_grammar.specs.Tree as tree
+use Rattle.cabinet_text_grammar.specs.Tree.{Pairs, IsLegal}
+use Rattle.cabinet_text_grammar.specs.Wholes.{numbered, with_tree, with_wholes}
+use Rattle.cabinet_documents.specs.Denotes.{tagged_value}
+use Rattle.cabinet_documents.specs.Node.{node_shape, whole_shape, KnowsNode}
 use Rattle.cabinet_archived.proofs.Shared.{counted_there}
 use Rattle.cabinet_archives.specs.Found.{OfDocument}
 use Rattle.cabinet_archives.specs.Hashed.{table_shape}

@@ -1,8 +1,8 @@
 use Rattle.std.proofs.Common.{◌+◌, ◌*◌, ◌-◌, drop}
-use Rattle.cabinet_text_nodes.specs.TextGrammar.Tree.{Pairs}
-use Rattle.cabinet_archived.specs.Documents.Denotes.{tagged_value}
-use Rattle.cabinet_archived.specs.Documents.Node.{node_shape, KnowsNode}
-use Rattle.archive_shape.specs.ShapeLayout.Shape.Shape.{vector}
+use Rattle.cabinet_text_grammar.specs.Tree.{Pairs}
+use Rattle.cabinet_documents.specs.Denotes.{tagged_value}
+use Rattle.cabinet_documents.specs.Node.{node_shape, KnowsNode}
+use Rattle.archive_shape_layout.specs.Shape.Shape.{vector}
 use Rattle.cabinet_archives.specs.Loading.{AreReadOf, AreWholesOf, OfTree, LeadTo, loaded_table}
 use Rattle.cabinet_archives.proofs.Loaded.{ElementsLeft}
 use Rattle.cabinet_archives.proofs.LoadedPairs.{PairsLeft}

@@ -1,8 +1,8 @@
 use Rattle.std.proofs.Common.{ap, ◌∙◌}
-use Rattle.archive_shape.specs.ShapeLayout.Shape.Shape.{text}
-use Rattle.archive_shape.specs.ShapeLayout.Shape.Shapes.{no_shapes}
+use Rattle.archive_shape_layout.specs.Shape.Shape.{text}
+use Rattle.archive_shape_layout.specs.Shape.Shapes.{no_shapes}
 use Rattle.archive_forms_values.specs.Fields.{field_position}
-use Rattle.cabinet_archived.specs.Documents.Node.{node_shape}
+use Rattle.cabinet_documents.specs.Node.{node_shape}
 use Rattle.cabinet_archives.proofs.HashedLeading.{leads, leads_nowhere, leads_by_bucket, leads_soundly, searches}
 use Rattle.cabinet_archives.proofs.maps.hashed.get_counted.Goals as goal
 

@@ -1,8 +1,8 @@
 use Rattle.std.proofs.Common.{◌≡◌, ◌==◌, ℕ, false, List, Bor, MatchOption, refl, sym, subst, ◌∙◌}
 use Rattle.std.specs.Prelude.{All}
 use Rattle.std.proofs.lemmas.List.Elements.{All-head, All-tail}
-use Rattle.archive_hash_walking.specs.Tables.{IsTableAt}
-use Rattle.cabinet_archived.specs.Documents.Node.{pair_shape}
+use Rattle.archive_hash_maps.specs.Tables.{IsTableAt}
+use Rattle.cabinet_documents.specs.Node.{pair_shape}
 use Rattle.cabinet_archives.specs.Keyed.{knows_pairs}
 use Rattle.cabinet_archives.specs.declared.opening.refusal.OpenRefusal.TheVariants as refusal
 use Rattle.cabinet_archives.specs.Hashed.{table_shape}

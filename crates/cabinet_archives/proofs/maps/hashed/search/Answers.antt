@@ -1,6 +1,6 @@
 use Rattle.std.proofs.Common.{ℕ, Bool}
-use Rattle.archive_hash_walking.proofs.Lookups.{found_there, items_there}
-use Rattle.cabinet_archived.specs.Documents.Node.{pair_shape}
+use Rattle.archive_hash_maps.proofs.Lookups.{found_there, items_there}
+use Rattle.cabinet_documents.specs.Node.{pair_shape}
 use Rattle.cabinet_archives.specs.Keyed.{SaysKey, knows_pairs}
 use Rattle.cabinet_archives.proofs.maps.hashed.search.Goals as goal
 

@@ -1,5 +1,5 @@
 use Rattle.std.proofs.Common.{ℕ, List, Bor, ap, sym, subst}
-use Rattle.archive_forms_values.specs.FormsLaws.Text.{HasText, IsText}
+use Rattle.archive_forms_laws.specs.Text.{HasText, IsText}
 use Rattle.cabinet_archives.proofs.KeptEntries.{key_there, entry_bytes}
 use Rattle.cabinet_archives.proofs.maps.kept.key_of.Goals as goal
 

@@ -1,7 +1,7 @@
 use Rattle.std.specs.Prelude.{⊤}
-use Rattle.archive_shape.specs.ShapeLayout.Shape.Shape.{text}
-use Rattle.cabinet_archived.specs.Documents.Node.{node_shape, KnowsNode}
-use Rattle.cabinet_archived.proofs.Index.Standing.{entry_there}
+use Rattle.archive_shape_layout.specs.Shape.Shape.{text}
+use Rattle.cabinet_documents.specs.Node.{node_shape, KnowsNode}
+use Rattle.archive_index.proofs.Standing.{entry_there}
 use Rattle.cabinet_archives.proofs.maps.kept.search.Goals as goal
 
 pub search_entries-requires-clause-callable : goal.search_entries-requires-clause-callable

@@ -1,9 +1,9 @@
 use Rattle.std.proofs.Common.{ℕ, ◌+◌, ◌≤◌, List, length, Bor, refl, sym, ap, subst, ◌∙◌}
-use Rattle.archive_shape.specs.ShapeLayout.Bytes.{word_at}
+use Rattle.archive_shape_layout.specs.Bytes.{word_at}
 use Rattle.std.specs.Prelude.{All}
 use Rattle.std.proofs.lemmas.List.Elements.{All-head, All-tail}
-use Rattle.archive_forms_values.specs.FormsLaws.Sample.{number_shape}
-use Rattle.archive_hash_walking.specs.Tables.{IsTableAt}
+use Rattle.archive_forms_laws.specs.Sample.{number_shape}
+use Rattle.archive_hash_maps.specs.Tables.{IsTableAt}
 use Rattle.cabinet_archives.specs.declared.opening.refusal.OpenRefusal.TheVariants as refusal
 use Rattle.cabinet_archives.proofs.IndexAudit.{HasNumber, AreNumbersLeft, all_numbers, number_low, tags_none, tags_wrong, tags_left}
 use Rattle.cabinet_archives.proofs.maps.kept.tags_sound.Goals as goal

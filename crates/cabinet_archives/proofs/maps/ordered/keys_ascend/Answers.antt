@@ -1,7 +1,7 @@
 use Rattle.std.proofs.Common.{◌≡◌, true, MatchOption, refl, sym, ap, subst, ◌∙◌, ◌∷◌, map}
 use Rattle.std.specs.Prelude.{All}
 use Rattle.std.proofs.lemmas.List.Elements.{All-head, All-tail}
-use Rattle.cabinet_archived.specs.Documents.Order.{ascend, is_below}
+use Rattle.cabinet_documents.specs.Order.{ascend, is_below}
 use Rattle.cabinet_archives.proofs.Texts.{text_is}
 use Rattle.cabinet_archives.proofs.Ascending.{HasTextIn, text_of, before, ascend_behind, next_above, next_not_above, none_left, all_keys, all_there}
 use Rattle.cabinet_archives.proofs.maps.ordered.keys_ascend.Goals as goal

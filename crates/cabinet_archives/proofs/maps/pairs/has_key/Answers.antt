@@ -1,6 +1,6 @@
 use Rattle.std.proofs.Common.{ℕ, List, Bor, sym, subst, ◌∙◌}
 use Rattle.std.proofs.lemmas.Map.Text.{is_eq-slice_cmp}
-use Rattle.archive_forms_values.specs.FormsLaws.Text.{IsText}
+use Rattle.archive_forms_laws.specs.Text.{IsText}
 use Rattle.cabinet_archives.proofs.maps.pairs.has_key.Goals as goal
 
 pub returns : goal.returns

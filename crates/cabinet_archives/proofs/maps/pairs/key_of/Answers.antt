@@ -1,8 +1,8 @@
 use Rattle.std.proofs.Common.{sym}
 use Rattle.std.specs.Prelude.{⊤}
-use Rattle.archive_shape.specs.ShapeLayout.Shape.Shape.{text}
-use Rattle.archive_hash_walking.proofs.Entries.{entry_parts}
-use Rattle.cabinet_archived.specs.Documents.Node.{node_shape, KnowsNode}
+use Rattle.archive_shape_layout.specs.Shape.Shape.{text}
+use Rattle.archive_hash_maps.proofs.Entries.{entry_parts}
+use Rattle.cabinet_documents.specs.Node.{node_shape, KnowsNode}
 use Rattle.cabinet_archives.proofs.Auditing.{value_as}
 use Rattle.cabinet_archives.proofs.Texts.{text_there}
 use Rattle.cabinet_archives.proofs.maps.pairs.key_of.Goals as goal

@@ -1,11 +1,11 @@
 use Rattle.std.proofs.Common.{◌≡◌, max, ℕ, ◌+◌, ◌-◌, ◌*◌, ◌<◌, List, Bor, Err, inr, refl, sym, subst, ◌∙◌, arith, rules}
 use Rattle.std.specs.Prelude.{All}
 use Rattle.std.proofs.lemmas.Result.{err_from_is_err_and}
-use Rattle.archive_shape.specs.ShapeLayout.Shape.Shape.{option, vector}
+use Rattle.archive_shape_layout.specs.Shape.Shape.{option, vector}
 use Rattle.archive_forms_values.specs.Parts.{PointsTo}
 use Rattle.archive_forms_values.proofs.Inside.{some_says}
-use Rattle.cabinet_archived.specs.Documents.Node.{node_shape, whole_shape, KnowsNode}
-use Rattle.archive_shape.specs.ShapeLayout.Content.Part.{at}
+use Rattle.cabinet_documents.specs.Node.{node_shape, whole_shape, KnowsNode}
+use Rattle.archive_shape_layout.specs.Content.Part.{at}
 use Rattle.cabinet_archives.specs.Hashed.{table_shape}
 use Rattle.cabinet_archives.specs.Kept.{index_shape}
 use Rattle.cabinet_archives.specs.Ordered.{map_shape}

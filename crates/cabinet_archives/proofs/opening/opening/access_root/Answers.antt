@@ -1,6 +1,6 @@
 use Rattle.std.proofs.Common.{refl}
 use Rattle.archive_core_validation.specs.Depth.{most_of}
-use Rattle.cabinet_archived.specs.Documents.Node.{node_names}
+use Rattle.cabinet_documents.specs.Node.{node_names}
 use Rattle.cabinet_archives.proofs.Audited.{root_decides}
 use Rattle.cabinet_archives.proofs.opening.opening.access_root.Goals as goal
 

@@ -1,7 +1,7 @@
 use Rattle.std.proofs.Common.{List, Ok, Err, ℕ, Bor, arith, sym, subst}
-use Rattle.archive_shape.specs.ShapeLayout.Content.Part.{at}
+use Rattle.archive_shape_layout.specs.Content.Part.{at}
 use Rattle.archive_forms_values.specs.Parts.{HasValue}
-use Rattle.cabinet_archived.specs.Documents.Node.{node_shape, KnowsNode}
+use Rattle.cabinet_documents.specs.Node.{node_shape, KnowsNode}
 use Rattle.cabinet_archives.specs.Sound.{AuditsTo}
 use Rattle.cabinet_archives.proofs.Audited.{audited, refused_for, node_there}
 use Rattle.cabinet_archives.proofs.opening.opening.check_scanned.Goals as goal

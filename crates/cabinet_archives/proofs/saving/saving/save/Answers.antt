@@ -1,5 +1,5 @@
 use Rattle.std.proofs.Common.{◌≡◌, ◌+◌, ◌<◌, false, ◌++◌, length, inr, sym, ap, ◌∙◌, subst}
-use Rattle.archive_shape_writing.specs.Writing.{WriterMembers, Cut, IsCounted}
+use Rattle.archive_shape_layout.specs.Writing.{WriterMembers, Cut, IsCounted}
 use Rattle.cabinet_archives.proofs.Saves.{cut_of, short_of, nothing_cut, unsaved}
 use Rattle.cabinet_archives.proofs.saving.saving.save.Goals as goal
 

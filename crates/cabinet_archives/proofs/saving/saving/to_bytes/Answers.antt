@@ -1,11 +1,11 @@
 use Rattle.std.proofs.Common.{ℕ, true, false, Ok, Err, refl, sym, ap, ◌∙◌}
 use Rattle.std.specs.Prelude.{Vec, vec_len}
 use Rattle.std.specs.Global.{Global}
-use Rattle.archive_shape_writing.specs.Writing.{WriterMembers}
-use Rattle.archive_shape_writing.specs.declared.error.Error.TheVariants.{OutOfMemory}
+use Rattle.archive_shape_layout.specs.Writing.{WriterMembers}
+use Rattle.archive_shape_layout.specs.declared.error.Error.TheVariants.{OutOfMemory}
 use Rattle.archive_core_serializing.specs.declared.serializer.Serializer.{Serializer}
-use Rattle.archive_forms_values.specs.FormsLaws.State.{initial}
-use Rattle.cabinet_archived.proofs.Documents.Imaged.{written_is_image_law}
+use Rattle.archive_forms_laws.specs.State.{initial}
+use Rattle.cabinet_documents.proofs.Imaged.{written_is_image_law}
 use Rattle.cabinet_archived.specs.declared.node_in.NodeIn.{NodeIn}
 use Rattle.cabinet_archived.specs.declared.sharing.node_share.NodeShare.{NodeShare}
 use Rattle.cabinet_archived.proofs.Registries.{known_by}

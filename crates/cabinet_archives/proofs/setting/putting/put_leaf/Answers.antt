@@ -1,6 +1,6 @@
 use Rattle.std.proofs.Common.{Bor, List, ℕ, refl, sym, ap, subst, true, false}
 use Rattle.std.proofs.lemmas.Bool.{eq-eqb, ne_eqb}
-use Rattle.archive_forms_values.specs.FormsLaws.Text.{HasText, HasLength}
+use Rattle.archive_forms_laws.specs.Text.{HasText, HasLength}
 use Rattle.cabinet_text_nodes.specs.View.{lent_leaf}
 use Rattle.cabinet_archives.proofs.Put.{has_text, put_refused, truth_put, number_put, text_put, not_truth, not_number, not_text, container_refuses, of_same}
 use Rattle.cabinet_archives.proofs.setting.putting.put_leaf.Goals as goal

@@ -1,13 +1,13 @@
 use Rattle.std.proofs.Common.{◌≡◌, ◌∙◌, refl, sym}
 use Rattle.cabinet_text_nodes.specs.Outcomes.{outcome_of}
 use Rattle.cabinet_text_nodes.specs.View.{lent_leaf, leaf_of, path_of}
-use Rattle.cabinet_text_nodes.specs.TextGrammar.Answering.{missing, refused}
+use Rattle.cabinet_text_grammar.specs.Answering.{missing, refused}
 use Rattle.cabinet_archives.proofs.Put.{of_same}
 use Rattle.cabinet_archives.proofs.Reached.{root_has_value, root_is_sound, none_set, inside_set, accepted_after, image_after, value_as, sound_as, reaches_as, set_as}
 use Rattle.cabinet_archives.specs.Found.{OfDocument, Reaches}
 use Rattle.cabinet_archives.proofs.Ways.{of_none, of_some}
 use Rattle.cabinet_archives.proofs.setting.setting.set.Goals as goal
-use Rattle.cabinet_text_nodes.specs.TextGrammar.Path.{enters}
+use Rattle.cabinet_text_grammar.specs.Path.{enters}
 
 pub find_counted-requires : goal.find_counted-requires
 find_counted-requires g c = record {

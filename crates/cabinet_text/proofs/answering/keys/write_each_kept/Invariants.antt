@@ -1,5 +1,5 @@
 use Rattle.std.proofs.Common.{flat_map, take}
-use Rattle.archive_shape_writing.specs.Writing.{Written}
+use Rattle.archive_shape_layout.specs.Writing.{Written}
 use Rattle.cabinet_text.proofs.Pieces.{key_piece}
 use Rattle.cabinet_text.proofs.answering.keys.write_each_kept.Given as goal
 

@@ -1,4 +1,4 @@
-use Rattle.std.proofs.Common.{◌≡◌, [], ap, sym, subst, ◌∙◌, refl, length, arith}
+use Rattle.std.proofs.Common.{◌≡◌, ap, sym, subst, ◌∙◌, length, arith}
 use Rattle.std.proofs.lemmas.Bool.Decides.{nat_tests}
 use Rattle.cabinet_text_grammar.specs.Wholes.{wholes_of, IsDocument}
 use Rattle.cabinet_text_nodes.specs.View.{node_tree, table_of}

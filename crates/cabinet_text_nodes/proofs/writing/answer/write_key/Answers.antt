@@ -1,5 +1,5 @@
 use Rattle.std.proofs.lemmas.Result.{err_from_is_err_and}
-use Rattle.archive_shape_writing.proofs.Joined.{appends_after, failed_first}
+use Rattle.archive_shape_layout.proofs.Joined.{appends_after, failed_first}
 use Rattle.cabinet_text_grammar.specs.Spelling.{escaped}
 use Rattle.cabinet_text_nodes.proofs.writing.answer.write_key.Goals as goal
 

@@ -1,5 +1,5 @@
 use Rattle.std.proofs.Common.{◌++◌, codes}
-use Rattle.archive_shape_writing.proofs.Joined.{appends_after}
+use Rattle.archive_shape_layout.proofs.Joined.{appends_after}
 use Rattle.cabinet_text_grammar.specs.Spelling.{escaped}
 use Rattle.cabinet_text_nodes.proofs.writing.head.write_text_line.Goals as goal
 

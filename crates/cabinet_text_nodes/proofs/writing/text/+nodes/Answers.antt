@@ -2,7 +2,7 @@ use Rattle.std.proofs.Common.{◌++◌, String, Global, length, refl, sym, ap, �
 use Rattle.std.specs.Prelude.{IsTrue}
 use Rattle.std.proofs.lemmas.List.{take_all}
 use Rattle.std.proofs.lemmas.Result.{err_from_is_err_and}
-use Rattle.archive_shape_writing.proofs.Joined.{appends_after, failed_first}
+use Rattle.archive_shape_layout.proofs.Joined.{appends_after, failed_first}
 use Rattle.cabinet_text_grammar.specs.Tree as tree
 use Rattle.cabinet_text_grammar.specs.Keys.{ordered, hashed, kept}
 use Rattle.cabinet_text_grammar.specs.Item.{items_of, items_of_pairs}

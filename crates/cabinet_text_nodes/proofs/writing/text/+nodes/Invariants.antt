@@ -1,6 +1,6 @@
 use Rattle.std.proofs.Common.{◌≡◌, flat_map, take, List, length}
 use Rattle.std.specs.Prelude.{IsTrue, map}
-use Rattle.archive_shape_writing.specs.Writing.{Written}
+use Rattle.archive_shape_layout.specs.Writing.{Written}
 use Rattle.cabinet_text_grammar.specs.Tree.{Tree}
 use Rattle.cabinet_text_grammar.specs.Wholes.{IsTable}
 use Rattle.cabinet_text_nodes.specs.View.{all_known}

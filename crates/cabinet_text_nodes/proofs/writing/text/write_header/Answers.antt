@@ -1,4 +1,4 @@
-use Rattle.archive_shape_writing.proofs.Joined.{written_none}
+use Rattle.archive_shape_layout.proofs.Joined.{written_none}
 use Rattle.cabinet_text_nodes.proofs.writing.text.write_header.Goals as goal
 
 pub returns-in-0 : goal.returns-in-0

@@ -1,6 +1,6 @@
 use Rattle.std.proofs.Common.{sym, subst, ◌++◌, arith}
 use Rattle.std.proofs.lemmas.Result.{err_from_is_err_and}
-use Rattle.archive_shape_writing.proofs.Joined.{failed_first, failed_after}
+use Rattle.archive_shape_layout.proofs.Joined.{failed_first, failed_after}
 use Rattle.cabinet_text_grammar.specs.Item.{items_of_table}
 use Rattle.cabinet_text_grammar.specs.Spelling.{lines_of, ended}
 use Rattle.cabinet_text_grammar.specs.Wholes.{IsTable, wholes_of}

@@ -1,7 +1,7 @@
 use Rattle.std.proofs.Common.{All, sym, subst}
 use Rattle.std.proofs.lemmas.List.Elements.{All-head, All-tail}
-use Rattle.archive_btree_walking.specs.Refs.{IsThere}
-use Rattle.archive_btree_walking.proofs.Runs.{all_there}
+use Rattle.archive_btree_maps.specs.Refs.{IsThere}
+use Rattle.archive_btree_maps.proofs.Runs.{all_there}
 use Rattle.archive_btree_maps.proofs.map.debug.ArchivedBTreeMapArchivedDebug.fmt.Goals as goal
 
 pub loop-key-init : goal.loop-key-init

@@ -1,5 +1,5 @@
 use Rattle.std.proofs.Common.{All}
-use Rattle.archive_btree_walking.specs.Refs.{IsThere}
+use Rattle.archive_btree_maps.specs.Refs.{IsThere}
 use Rattle.archive_btree_maps.proofs.map.debug.ArchivedBTreeMapArchivedDebug.fmt.Given as goal
 
 -- values lie at the entries that are left

@@ -1,7 +1,7 @@
 use Rattle.std.proofs.Common.{◌∙◌, refl, sym}
 use Rattle.std.specs.Option.{option_map}
-use Rattle.archive_btree_nodes.specs.SearchingNodes.{place_of}
-use Rattle.archive_btree_walking.proofs.Refs.{same_some, found_some}
+use Rattle.archive_btree_maps.specs.SearchingNodes.{place_of}
+use Rattle.archive_btree_maps.proofs.Refs.{same_some, found_some}
 use Rattle.archive_btree_maps.proofs.map.map.ArchivedBTreeMap.contains_key.Goals as goal
 
 pub returns-clause-answers : goal.returns-clause-answers

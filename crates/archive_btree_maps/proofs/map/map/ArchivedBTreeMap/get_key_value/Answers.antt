@@ -1,11 +1,11 @@
 use Rattle.std.proofs.Common.{◌∙◌, Some, refl, ap}
 use Rattle.std.specs.Option.{option_map}
-use Rattle.archive_btree_nodes.specs.BtreeLayout.Descent.{descend}
-use Rattle.archive_btree_nodes.specs.SearchingNodes.{place_of}
-use Rattle.archive_btree_walking.specs.Refs.{entry_at}
-use Rattle.archive_btree_walking.proofs.Refs.{pair_is, found_at, none_found, finds_some}
-use Rattle.archive_btree_walking.proofs.Held.{found_there}
-use Rattle.archive_btree_nodes.specs.BtreeLayout.Tree.{items}
+use Rattle.archive_btree_layout.specs.Descent.{descend}
+use Rattle.archive_btree_maps.specs.SearchingNodes.{place_of}
+use Rattle.archive_btree_maps.specs.Refs.{entry_at}
+use Rattle.archive_btree_maps.proofs.Refs.{pair_is, found_at, none_found, finds_some}
+use Rattle.archive_btree_maps.proofs.HeldKeys.{found_there}
+use Rattle.archive_btree_layout.specs.Tree.{items}
 use Rattle.archive_forms_values.specs.Parts.{HasValue}
 use Rattle.archive_btree_maps.proofs.map.map.ArchivedBTreeMap.get_key_value.Goals as goal
 

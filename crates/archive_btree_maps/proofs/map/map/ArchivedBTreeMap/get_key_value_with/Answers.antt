@@ -1,10 +1,10 @@
 use Rattle.std.proofs.Common.{◌∙◌, Some, ap}
-use Rattle.archive_btree_nodes.specs.BtreeLayout.Descent.{descend}
-use Rattle.archive_btree_walking.specs.Refs.{entry_at}
-use Rattle.archive_btree_walking.proofs.Refs.{pair_is, found_at, none_found, finds_some, finds_called}
-use Rattle.archive_btree_walking.specs.Lookups.{CallsEqual}
-use Rattle.archive_btree_walking.proofs.Held.{entries_are, found_there}
-use Rattle.archive_btree_nodes.specs.BtreeLayout.Tree.{items}
+use Rattle.archive_btree_layout.specs.Descent.{descend}
+use Rattle.archive_btree_maps.specs.Refs.{entry_at}
+use Rattle.archive_btree_maps.proofs.Refs.{pair_is, found_at, none_found, finds_some, finds_called}
+use Rattle.archive_btree_maps.specs.Lookups.{CallsEqual}
+use Rattle.archive_btree_maps.proofs.HeldKeys.{entries_are, found_there}
+use Rattle.archive_btree_layout.specs.Tree.{items}
 use Rattle.archive_forms_values.specs.Parts.{HasValue}
 use Rattle.archive_btree_maps.proofs.map.map.ArchivedBTreeMap.get_key_value_with.Goals as goal
 

@@ -1,12 +1,12 @@
 use Rattle.std.proofs.Common.{◌∙◌, ap, sym, subst}
 use Rattle.std.specs.Option.{option_map}
 use Rattle.std.proofs.lemmas.List.Elements.{All-contains}
-use Rattle.archive_btree_nodes.specs.BtreeLayout.Tree.{items}
-use Rattle.archive_btree_nodes.specs.SearchingNodes.{place_of}
+use Rattle.archive_btree_layout.specs.Tree.{items}
+use Rattle.archive_btree_maps.specs.SearchingNodes.{place_of}
 use Rattle.archive_forms_values.specs.Parts.{HasValue}
-use Rattle.archive_btree_walking.proofs.Held.{entries_are}
-use Rattle.archive_btree_walking.proofs.Roots.{tree_of_value}
-use Rattle.archive_btree_walking.proofs.Sealed.{found_entry}
+use Rattle.archive_btree_maps.proofs.HeldKeys.{entries_are}
+use Rattle.archive_btree_maps.proofs.Roots.{tree_of_value}
+use Rattle.archive_btree_maps.proofs.Sealed.{found_entry}
 use Rattle.archive_btree_maps.proofs.map.map.ArchivedBTreeMap.get_seal.Goals as goal
 
 pub returns-in-Some-clause-answers : goal.returns-in-Some-clause-answers

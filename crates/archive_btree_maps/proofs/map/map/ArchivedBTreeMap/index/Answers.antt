@@ -1,10 +1,10 @@
 use Rattle.std.proofs.Common.{◌∙◌, Some, IfSome, sym, subst}
-use Rattle.archive_btree_nodes.specs.BtreeLayout.Tree.{items}
-use Rattle.archive_btree_walking.specs.Lookups.{Finds, IsEqualKey, LooksUp}
+use Rattle.archive_btree_layout.specs.Tree.{items}
+use Rattle.archive_btree_maps.specs.Lookups.{Finds, IsEqualKey, LooksUp}
 use Rattle.archive_forms_values.specs.Parts.{HasValue}
-use Rattle.archive_btree_walking.specs.Refs.{value_at}
-use Rattle.archive_btree_walking.proofs.LookedUp.{one_entry}
-use Rattle.archive_btree_walking.proofs.Refs.{some_mapped}
+use Rattle.archive_btree_maps.specs.Refs.{value_at}
+use Rattle.archive_btree_maps.proofs.LookedUp.{one_entry}
+use Rattle.archive_btree_maps.proofs.Refs.{some_mapped}
 use Rattle.archive_btree_maps.proofs.map.map.ArchivedBTreeMap.index.Goals as goal
 
 pub unwrap-requires : goal.unwrap-requires

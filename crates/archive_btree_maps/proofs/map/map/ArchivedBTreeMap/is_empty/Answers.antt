@@ -1,4 +1,4 @@
-use Rattle.archive_btree_walking.proofs.Roots.{map_empty}
+use Rattle.archive_btree_maps.proofs.Roots.{map_empty}
 use Rattle.archive_btree_maps.proofs.map.map.ArchivedBTreeMap.is_empty.Goals as goal
 
 pub returns : goal.returns

@@ -1,5 +1,5 @@
 use Rattle.std.proofs.Common.{◌∙◌, map, ap}
-use Rattle.archive_btree_walking.specs.Refs.{entry_at}
+use Rattle.archive_btree_maps.specs.Refs.{entry_at}
 use Rattle.archive_btree_maps.proofs.map.map.ArchivedBTreeMap.iter.Goals as goal
 
 pub returns : goal.returns

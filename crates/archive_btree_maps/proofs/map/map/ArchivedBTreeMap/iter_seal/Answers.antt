@@ -1,9 +1,9 @@
 use Rattle.std.proofs.Common.{◌∙◌, sym, subst}
-use Rattle.archive_btree_nodes.specs.BtreeLayout.Tree.{items}
-use Rattle.archive_btree_walking.specs.Walks.{IsWritten}
-use Rattle.archive_btree_walking.proofs.Roots.{map_count}
-use Rattle.archive_btree_walking.proofs.Runs.{whole_run}
-use Rattle.archive_btree_walking.proofs.Sealed.{begun_goes_on, map_at}
+use Rattle.archive_btree_layout.specs.Tree.{items}
+use Rattle.archive_btree_maps.specs.Walks.{IsWritten}
+use Rattle.archive_btree_maps.proofs.Roots.{map_count}
+use Rattle.archive_btree_maps.proofs.Runs.{whole_run}
+use Rattle.archive_btree_maps.proofs.Sealed.{begun_goes_on, map_at}
 use Rattle.archive_btree_maps.proofs.map.map.ArchivedBTreeMap.iter_seal.Goals as goal
 
 pub returns-clause-entries : goal.returns-clause-entries

@@ -1,7 +1,7 @@
 use Rattle.std.proofs.Common.{◌∙◌, map, ap}
-use Rattle.archive_btree_nodes.specs.BtreeLayout.Tree.{items}
-use Rattle.archive_btree_walking.specs.Refs.{entry_at}
-use Rattle.archive_btree_walking.proofs.Refs.{mapped}
+use Rattle.archive_btree_layout.specs.Tree.{items}
+use Rattle.archive_btree_maps.specs.Refs.{entry_at}
+use Rattle.archive_btree_maps.proofs.Refs.{mapped}
 use Rattle.archive_btree_maps.proofs.map.map.ArchivedBTreeMap.keys.Goals as goal
 
 pub returns : goal.returns

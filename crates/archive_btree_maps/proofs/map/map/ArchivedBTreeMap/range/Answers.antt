@@ -1,10 +1,10 @@
 use Rattle.std.proofs.Common.{◌∙◌, map, sym, ap}
-use Rattle.archive_btree_nodes.specs.BtreeLayout.Tree.{items}
-use Rattle.archive_btree_walking.specs.Ranges.{items_between}
-use Rattle.archive_btree_walking.specs.Refs.{entry_at}
-use Rattle.archive_btree_walking.proofs.Between.{of_each, of_lent}
-use Rattle.archive_btree_walking.proofs.Held.{entries_are}
-use Rattle.archive_btree_walking.proofs.Runs.{made_run, made_there}
+use Rattle.archive_btree_layout.specs.Tree.{items}
+use Rattle.archive_btree_maps.specs.Bounds.{items_between}
+use Rattle.archive_btree_maps.specs.Refs.{entry_at}
+use Rattle.archive_btree_maps.proofs.Between.{of_each, of_lent}
+use Rattle.archive_btree_maps.proofs.HeldKeys.{entries_are}
+use Rattle.archive_btree_maps.proofs.Runs.{made_run, made_there}
 use Rattle.archive_btree_maps.proofs.map.map.ArchivedBTreeMap.range.Goals as goal
 
 pub range_at-requires-clause-callable : goal.range_at-requires-clause-callable

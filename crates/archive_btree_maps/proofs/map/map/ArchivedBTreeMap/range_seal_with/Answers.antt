@@ -1,13 +1,13 @@
 use denote.MutBor.{as_bor}
 use Rattle.std.proofs.Common.{inl, inr, refl, sym, subst}
-use Rattle.archive_btree_nodes.specs.BtreeLayout.Tree.{items}
-use Rattle.archive_btree_nodes.specs.Ranges.{IsRun}
+use Rattle.archive_btree_layout.specs.Tree.{items}
+use Rattle.archive_btree_maps.specs.Ranges.{IsRun}
 use Rattle.archive_forms_values.specs.Parts.{HasValue}
-use Rattle.archive_btree_walking.specs.Ranges.{items_between}
-use Rattle.archive_btree_walking.specs.Walks.{WalksIn, IsWritten}
-use Rattle.archive_btree_walking.proofs.Between.{of_known, of_lent}
-use Rattle.archive_btree_walking.proofs.Held.{entries_are}
-use Rattle.archive_btree_walking.proofs.Sealed.{begun_goes_on, one_left, map_at}
+use Rattle.archive_btree_maps.specs.Bounds.{items_between}
+use Rattle.archive_btree_maps.specs.Walks.{WalksIn, IsWritten}
+use Rattle.archive_btree_maps.proofs.Between.{of_known, of_lent}
+use Rattle.archive_btree_maps.proofs.HeldKeys.{entries_are}
+use Rattle.archive_btree_maps.proofs.Sealed.{begun_goes_on, one_left, map_at}
 use Rattle.archive_btree_maps.proofs.map.map.ArchivedBTreeMap.range_seal_with.Goals as goal
 
 pub walk_between-walk-requires-clause-callable : goal.walk_between-walk-requires-clause-callable

@@ -1,10 +1,10 @@
 use Rattle.std.proofs.Common.{sym, subst}
 use Rattle.std.specs.declared.ops.ControlFlow.TheVariants.{Continue, Break}
-use Rattle.archive_btree_nodes.specs.Visiting.{VisitsAll, BreaksWith, IsCallableAt}
-use Rattle.archive_btree_nodes.proofs.Visited.{visits_none, visits_first, breaks_later, breaks_first, callable_first, callable_rest}
+use Rattle.archive_btree_maps.specs.Visiting.{VisitsAll, BreaksWith, IsCallableAt}
+use Rattle.archive_btree_maps.proofs.VisitedPlaces.{visits_none, visits_first, breaks_later, breaks_first, callable_first, callable_rest}
 use Rattle.archive_btree_maps.specs.MapVisits.{MayCallAt, CallsAt}
-use Rattle.archive_btree_walking.proofs.Roots.{tree_of_value}
-use Rattle.archive_btree_walking.proofs.Refs.{at_values, at_places}
+use Rattle.archive_btree_maps.proofs.Roots.{tree_of_value}
+use Rattle.archive_btree_maps.proofs.Refs.{at_values, at_places}
 use Rattle.archive_btree_maps.proofs.map.map.ArchivedBTreeMap.visit.Goals as goal
 
 pub loop-entry-init : goal.loop-entry-init

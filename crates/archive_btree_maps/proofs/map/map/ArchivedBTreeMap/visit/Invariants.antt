@@ -1,5 +1,5 @@
 use Rattle.std.proofs.Common.{length}
-use Rattle.archive_btree_nodes.specs.Visiting.{VisitsAll, BreaksWith, IsCallableAt}
+use Rattle.archive_btree_maps.specs.Visiting.{VisitsAll, BreaksWith, IsCallableAt}
 use Rattle.archive_btree_maps.specs.MapVisits.{MayCallAt, CallsAt}
 use Rattle.archive_btree_maps.proofs.map.map.ArchivedBTreeMap.visit.Given as goal
 

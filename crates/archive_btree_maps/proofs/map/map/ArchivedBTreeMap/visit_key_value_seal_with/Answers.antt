@@ -5,14 +5,14 @@ use Rattle.std.proofs.lemmas.List.Elements.{All-contains}
 use Rattle.archive_shape_layout.specs.Shape.{size_of}
 use Rattle.archive_forms_values.specs.Loans.{MayCallLent}
 use Rattle.archive_forms_values.proofs.Lent.{lent_there}
-use Rattle.archive_btree_nodes.specs.BtreeLayout.Tree.{items}
-use Rattle.archive_btree_nodes.specs.SearchingNodes.{place_of}
+use Rattle.archive_btree_layout.specs.Tree.{items}
+use Rattle.archive_btree_maps.specs.SearchingNodes.{place_of}
 use Rattle.archive_forms_values.specs.Parts.{HasValue}
-use Rattle.archive_btree_walking.specs.Lookups.{CallsEqual}
-use Rattle.archive_btree_walking.proofs.Refs.{finds_called}
-use Rattle.archive_btree_walking.proofs.Held.{entries_are}
-use Rattle.archive_btree_walking.proofs.Roots.{tree_of_value}
-use Rattle.archive_btree_walking.proofs.Sealed.{nothing_written, values_within, keys_before, found_entry}
+use Rattle.archive_btree_maps.specs.Lookups.{CallsEqual}
+use Rattle.archive_btree_maps.proofs.Refs.{finds_called}
+use Rattle.archive_btree_maps.proofs.HeldKeys.{entries_are}
+use Rattle.archive_btree_maps.proofs.Roots.{tree_of_value}
+use Rattle.archive_btree_maps.proofs.Sealed.{nothing_written, values_within, keys_before, found_entry}
 use Rattle.archive_btree_maps.proofs.map.map.ArchivedBTreeMap.visit_key_value_seal_with.Goals as goal
 
 pub search_map-requires-clause-callable : goal.search_map-requires-clause-callable

@@ -1,13 +1,13 @@
 use Rattle.std.proofs.Common.{◌≤◌, refl, arith}
 use Rattle.archive_shape_layout.specs.Shape.{size_of}
-use Rattle.archive_btree_nodes.specs.BtreeLayout.Tree.{items}
-use Rattle.archive_btree_nodes.specs.SearchingNodes.{place_of}
+use Rattle.archive_btree_layout.specs.Tree.{items}
+use Rattle.archive_btree_maps.specs.SearchingNodes.{place_of}
 use Rattle.archive_btree_maps.specs.SealedVisits.{MayCallSealed}
 use Rattle.archive_btree_maps.specs.SealedVisits.VisitsSealed.{none_left, breaks_at, goes_on}
 use Rattle.archive_forms_values.proofs.Lent.{lent_there}
-use Rattle.archive_btree_walking.proofs.Roots.{tree_of_value}
-use Rattle.archive_btree_walking.proofs.Runs.{whole_run}
-use Rattle.archive_btree_walking.proofs.Sealed.{walk_goes_on, nothing_written, first_among, visited_written}
+use Rattle.archive_btree_maps.proofs.Roots.{tree_of_value}
+use Rattle.archive_btree_maps.proofs.Runs.{whole_run}
+use Rattle.archive_btree_maps.proofs.Sealed.{walk_goes_on, nothing_written, first_among, visited_written}
 use Rattle.archive_forms_values.specs.Parts.{HasValue}
 use Rattle.archive_btree_maps.proofs.SealedCalls.{same_map, fewer_left, visits_same}
 use Rattle.archive_btree_maps.proofs.map.map.ArchivedBTreeMap.visit_seal.Goals as goal

@@ -1,9 +1,9 @@
 use Rattle.std.proofs.Common.{◌≡◌, ℕ, List, length}
-use Rattle.archive_btree_nodes.specs.BtreeLayout.Tree.{items}
-use Rattle.archive_btree_nodes.specs.BtreeLayout.Reading.{Place}
-use Rattle.archive_btree_nodes.specs.Ranges.{before_key}
-use Rattle.archive_btree_nodes.specs.Walking.{stack_items}
-use Rattle.archive_btree_walking.specs.Walks.{BegunMap, IsWritten, GoesOn}
+use Rattle.archive_btree_layout.specs.Tree.{items}
+use Rattle.archive_btree_layout.specs.Reading.{Place}
+use Rattle.archive_btree_maps.specs.Ranges.{before_key}
+use Rattle.archive_btree_maps.specs.Walking.{stack_items}
+use Rattle.archive_btree_maps.specs.Walks.{BegunMap, IsWritten, GoesOn}
 use Rattle.archive_btree_maps.specs.SealedVisits.{VisitsSealed}
 use Rattle.archive_btree_maps.proofs.map.map.ArchivedBTreeMap.visit_seal.Given as goal
 

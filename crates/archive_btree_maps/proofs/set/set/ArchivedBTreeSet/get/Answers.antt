@@ -1,5 +1,5 @@
 use Rattle.std.proofs.Common.{Some, None, ap}
-use Rattle.archive_btree_nodes.specs.BtreeLayout.Descent.{descend}
+use Rattle.archive_btree_layout.specs.Descent.{descend}
 use Rattle.archive_btree_maps.proofs.Found.{key_found}
 use Rattle.archive_btree_maps.proofs.set.set.ArchivedBTreeSet.get.Goals as goal
 

@@ -1,7 +1,7 @@
 use Rattle.std.proofs.Common.{All, sym, subst}
 use Rattle.std.proofs.lemmas.List.Elements.{All-head, All-tail, All-map}
-use Rattle.archive_btree_nodes.specs.BtreeLayout.Tree.{items}
-use Rattle.archive_btree_walking.specs.Refs.{key_at}
+use Rattle.archive_btree_layout.specs.Tree.{items}
+use Rattle.archive_btree_maps.specs.Refs.{key_at}
 use Rattle.archive_btree_maps.specs.SetVisits.{VisitsAll, BreaksWith}
 use Rattle.archive_btree_maps.proofs.Visited.{visits_none, visits_first, breaks_later, breaks_first}
 use Rattle.archive_btree_maps.proofs.Held.{tree_of_set}

@@ -1,6 +1,6 @@
 use Rattle.std.proofs.Common.{sym, ap, ◌∙◌}
-use Rattle.archive_shape.specs.ShapeLayout.Value.Value.{string}
-use Rattle.archive_forms_laws.specs.ShapeCanonical.Sharing.{erased}
+use Rattle.archive_shape_layout.specs.Value.Value.{string}
+use Rattle.archive_shape_canonical.specs.Sharing.{erased}
 use Rattle.archive_forms.proofs.deserializing.boxed_slices.StrDeserializeUnsizedBoxedStr.deserialize_unsized.Goals as goal
 
 pub returns-in-Ok-clause-value : goal.returns-in-Ok-clause-value

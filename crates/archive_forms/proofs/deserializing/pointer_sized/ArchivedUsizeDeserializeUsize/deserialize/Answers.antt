@@ -1,5 +1,5 @@
 use Rattle.std.proofs.Common.{ap}
-use Rattle.archive_forms_laws.specs.ShapeCanonical.Sharing.{erased}
+use Rattle.archive_shape_canonical.specs.Sharing.{erased}
 use Rattle.archive_forms.proofs.deserializing.pointer_sized.ArchivedUsizeDeserializeUsize.deserialize.Goals as goal
 
 pub returns-clause-value : goal.returns-clause-value

@@ -1,6 +1,6 @@
 use Rattle.std.proofs.Common.{rules, ◌≡◌, ap}
 use Rattle.std.specs.Hash as fed
-use Rattle.archive_shape.specs.ShapeLayout.Value.Value.{integer}
+use Rattle.archive_shape_layout.specs.Value.Value.{integer}
 use Rattle.archive_forms_laws.specs.Views.{integer_of}
 use Rattle.archive_forms_comparing.proofs.hashing.leaf.I8ArchivedHash.hash.Goals as goal
 

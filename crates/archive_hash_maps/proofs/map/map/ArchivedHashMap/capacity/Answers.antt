@@ -1,6 +1,6 @@
 use Rattle.archive_forms_values.specs.Tuples.{tuple2}
-use Rattle.archive_hash_walking.specs.Tables.{IsTableAt}
-use Rattle.archive_hash_walking.proofs.Refs.{at_ref}
+use Rattle.archive_hash_maps.specs.Tables.{IsTableAt}
+use Rattle.archive_hash_maps.proofs.Refs.{at_ref}
 use Rattle.archive_hash_maps.proofs.map.map.ArchivedHashMap.capacity.Goals as goal
 
 pub returns : goal.returns

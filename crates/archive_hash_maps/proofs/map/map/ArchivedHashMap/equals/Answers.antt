@@ -2,7 +2,7 @@ use Rattle.std.proofs.Common.{◌∙◌, true, [], ◌∷◌, All, Contains, inr
 use Rattle.std.proofs.lemmas.List.Elements.{All-nil, All-cons, All-head, All-tail, Contains-append_right}
 use Rattle.archive_forms_values.specs.Parts.{HasValue}
 use Rattle.archive_shape.specs.declared.references.refs.Ref.{Ref}
-use Rattle.archive_hash_walking.specs.Equal.{KeyHashesTo, HasEqual}
+use Rattle.archive_hash_maps.specs.Equal.{KeyHashesTo, HasEqual}
 use Rattle.archive_hash_maps.proofs.map.map.ArchivedHashMap.equals.Goals as goal
 
 pub loop-entry-init : goal.loop-entry-init

@@ -2,9 +2,9 @@ use Rattle.std.proofs.Common.{true, map, All, Contains}
 use Rattle.archive_forms_values.specs.Tuples.{tuple2}
 use Rattle.archive_forms_values.specs.Parts.{HasValue}
 use Rattle.archive_shape.specs.declared.references.refs.Ref.{Ref}
-use Rattle.archive_hash_walking.specs.Tables.{Buckets, IsTableAt, item_positions}
-use Rattle.archive_hash_walking.specs.Maps.{entry_at}
-use Rattle.archive_hash_walking.specs.Equal.{KeyHashesTo, HasEqual}
+use Rattle.archive_hash_maps.specs.Tables.{Buckets, IsTableAt, item_positions}
+use Rattle.archive_hash_maps.specs.Maps.{entry_at}
+use Rattle.archive_hash_maps.specs.Equal.{KeyHashesTo, HasEqual}
 use Rattle.archive_hash_maps.proofs.map.map.ArchivedHashMap.equals.Given as goal
 
 -- the entries that are left are there, decide, and are among the entries

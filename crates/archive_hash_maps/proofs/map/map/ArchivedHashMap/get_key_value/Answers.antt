@@ -3,10 +3,10 @@ use Rattle.archive_forms_values.specs.Tuples.{tuple2}
 use Rattle.archive_shape_layout.specs.Shape.Shapes.{no_shapes}
 use Rattle.archive_forms_values.specs.Parts.{HasValue}
 use Rattle.archive_forms_values.specs.Fields.{field_position}
-use Rattle.archive_hash_walking.specs.Maps.{entry_at}
-use Rattle.archive_hash_walking.proofs.Entries.{entry_parts}
-use Rattle.archive_hash_walking.proofs.LookedUp.{looks_up_of, pair_is}
-use Rattle.archive_hash_walking.proofs.Refs.{at_ref}
+use Rattle.archive_hash_maps.specs.Maps.{entry_at}
+use Rattle.archive_hash_maps.proofs.Entries.{entry_parts}
+use Rattle.archive_hash_maps.proofs.LookedUp.{looks_up_of, pair_is}
+use Rattle.archive_hash_maps.proofs.Refs.{at_ref}
 use Rattle.archive_hash_maps.proofs.map.map.ArchivedHashMap.get_key_value.Goals as goal
 
 pub returns-in-Some-clause-there : goal.returns-in-Some-clause-there

@@ -5,7 +5,7 @@ use Rattle.archive_forms_values.specs.Fields.{field_position}
 use Rattle.archive_forms_values.specs.Loans.{IsLent}
 use Rattle.archive_forms_values.proofs.Lent.{lent_there}
 use Rattle.archive_forms_values.specs.Parts.{HasValue}
-use Rattle.archive_hash_walking.proofs.Before.{value_within, key_before}
+use Rattle.archive_hash_maps.proofs.Before.{value_within, key_before}
 use Rattle.archive_hash_maps.proofs.map.map.ArchivedHashMap.get_key_value_seal_with.Goals as goal
 
 pub search_with-requires-clause-callable : goal.search_with-requires-clause-callable

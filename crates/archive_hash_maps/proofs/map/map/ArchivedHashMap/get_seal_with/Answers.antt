@@ -4,8 +4,8 @@ use Rattle.archive_forms_values.specs.Tuples.{tuple2}
 use Rattle.archive_shape_layout.specs.Shape.Shapes.{no_shapes}
 use Rattle.archive_forms_values.specs.Parts.{HasValue}
 use Rattle.archive_forms_values.specs.Fields.{field_position}
-use Rattle.archive_hash_walking.proofs.Entries.{entry_parts}
-use Rattle.archive_hash_walking.proofs.LookedUp.{looks_up_of}
+use Rattle.archive_hash_maps.proofs.Entries.{entry_parts}
+use Rattle.archive_hash_maps.proofs.LookedUp.{looks_up_of}
 use Rattle.archive_hash_maps.proofs.map.map.ArchivedHashMap.get_seal_with.Goals as goal
 
 pub search_with-requires-clause-callable : goal.search_with-requires-clause-callable

@@ -1,7 +1,7 @@
 use Rattle.std.proofs.Common.{Some, None, refl}
 use Rattle.archive_forms_values.specs.Tuples.{tuple2}
-use Rattle.archive_hash_walking.specs.Maps.{entry_at}
-use Rattle.archive_hash_walking.proofs.LookedUp.{looks_up_as}
+use Rattle.archive_hash_maps.specs.Maps.{entry_at}
+use Rattle.archive_hash_maps.proofs.LookedUp.{looks_up_as}
 use Rattle.archive_hash_maps.proofs.map.map.ArchivedHashMap.get_with.Goals as goal
 
 pub returns-in-Some-clause-answers : goal.returns-in-Some-clause-answers

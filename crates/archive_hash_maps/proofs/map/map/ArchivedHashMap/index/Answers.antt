@@ -1,4 +1,4 @@
-use Rattle.archive_hash_walking.specs.Maps.{HashesTo, value_at}
+use Rattle.archive_hash_maps.specs.Maps.{HashesTo, value_at}
 use Rattle.archive_hash_maps.proofs.Present.{key_is_found}
 use Rattle.archive_hash_maps.proofs.map.map.ArchivedHashMap.index.Goals as goal
 

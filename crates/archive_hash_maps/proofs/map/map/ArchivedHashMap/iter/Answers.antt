@@ -1,12 +1,12 @@
 use Rattle.std.proofs.Common.{◌∙◌, ◌+◌, ◌^◌, ◌<◌, map, All, sym, ap, subst, arith}
 use Rattle.archive_forms_values.specs.Tuples.{tuple2}
 use Rattle.archive_forms_values.specs.Parts.{HasValue, both}
-use Rattle.archive_hash_walking.specs.Tables.{IsTableAt, item_positions}
-use Rattle.archive_hash_walking.specs.Maps.{pair_at}
-use Rattle.archive_hash_walking.proofs.Lookups.{items_there}
+use Rattle.archive_hash_maps.specs.Tables.{IsTableAt, item_positions}
+use Rattle.archive_hash_maps.specs.Maps.{pair_at}
+use Rattle.archive_hash_maps.proofs.Lookups.{items_there}
 use Rattle.archive_hash_maps.proofs.Paired.{entries_held, values_fit, pairs_are}
-use Rattle.archive_hash_walking.proofs.Refs.{at_ref}
-use Rattle.archive_hash_walking.proofs.Roots.{places_of_value}
+use Rattle.archive_hash_maps.proofs.Refs.{at_ref}
+use Rattle.archive_hash_maps.proofs.Roots.{places_of_value}
 use Rattle.archive_hash_maps.proofs.map.map.ArchivedHashMap.iter.Goals as goal
 
 pub invariant_of-result : goal.invariant_of-result

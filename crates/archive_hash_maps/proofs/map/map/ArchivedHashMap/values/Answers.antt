@@ -2,8 +2,8 @@ use Rattle.std.proofs.Common.{◌∙◌, map, ap}
 use Rattle.std.proofs.lemmas.List.Elements.{All-map}
 use Rattle.archive_forms_values.specs.Tuples.{tuple2}
 use Rattle.archive_forms_values.specs.Parts.{HasValue}
-use Rattle.archive_hash_walking.specs.Tables.{item_positions}
-use Rattle.archive_hash_walking.specs.Maps.{entry_at}
+use Rattle.archive_hash_maps.specs.Tables.{item_positions}
+use Rattle.archive_hash_maps.specs.Maps.{entry_at}
 use Rattle.archive_hash_maps.proofs.Paired.{mapped}
 use Rattle.archive_hash_maps.proofs.map.map.ArchivedHashMap.values.Goals as goal
 

@@ -1,5 +1,5 @@
 use Rattle.std.proofs.Common.{rules, ◌+◌, ◌^◌, ◌<◌}
-use Rattle.archive_hash_walking.proofs.Walked.{first_of}
+use Rattle.archive_hash_maps.proofs.Walked.{first_of}
 use Rattle.archive_hash_maps.proofs.map.map_iter.IterIterator.next.Goals as goal
 
 pub invariant_of-self-2 : goal.invariant_of-self-2

@@ -1,6 +1,6 @@
 use Rattle.std.proofs.Common.{ℕ, Bool, Some, None, refl, ap, subst}
-use Rattle.archive_hash_walking.specs.Places.{LooksUp, FindsAccepted, FindsTheOnly, item_at}
-use Rattle.archive_hash_walking.proofs.Lookups.{item_is, item_there, items_there}
+use Rattle.archive_hash_maps.specs.Places.{LooksUp, FindsAccepted, FindsTheOnly, item_at}
+use Rattle.archive_hash_maps.proofs.Lookups.{item_is, item_there, items_there}
 use Rattle.archive_hash_maps.proofs.map.table.ArchivedHashTable.get_counted.Goals as goal
 
 pub search_table-found-requires : goal.search_table-found-requires

@@ -1,5 +1,5 @@
-use Rattle.archive_hash_walking.specs.Tables.{full_places}
-use Rattle.archive_hash_walking.proofs.Roots.{table_empty}
+use Rattle.archive_hash_maps.specs.Tables.{full_places}
+use Rattle.archive_hash_maps.proofs.Roots.{table_empty}
 use Rattle.archive_hash_maps.proofs.map.table.ArchivedHashTable.is_empty.Goals as goal
 
 pub returns : goal.returns

@@ -1,5 +1,5 @@
 use Rattle.std.proofs.Common.{◌∙◌}
-use Rattle.archive_hash_walking.proofs.Roots.{table_count}
+use Rattle.archive_hash_maps.proofs.Roots.{table_count}
 use Rattle.archive_hash_maps.proofs.map.table.ArchivedHashTable.len.Goals as goal
 
 pub returns : goal.returns

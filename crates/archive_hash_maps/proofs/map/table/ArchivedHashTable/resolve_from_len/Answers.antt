@@ -1,5 +1,5 @@
 use Rattle.std.proofs.Common.{rules, subst, arith}
-use Rattle.archive_forms_values.specs.FormsLaws.Links.{LinkRefused}
+use Rattle.archive_forms_laws.specs.Links.{LinkRefused}
 use Rattle.archive_hash_maps.specs.Resolving.IsRefused.{is_far}
 use Rattle.archive_hash_maps.proofs.Resolved.{on_err, items_fit, no_capacity, three_written}
 use Rattle.archive_hash_maps.proofs.map.table.ArchivedHashTable.resolve_from_len.Goals as goal

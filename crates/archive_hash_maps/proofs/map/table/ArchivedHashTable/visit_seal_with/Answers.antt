@@ -1,7 +1,7 @@
 use denote.MutBor.{as_bor}
 use Rattle.std.proofs.Common.{ℕ, Bool, ◌+◌, ◌≤◌, length, Some, None, refl, subst, arith}
-use Rattle.archive_hash_walking.specs.Places.{LooksUp, FindsAccepted, FindsTheOnly, calls}
-use Rattle.archive_hash_walking.proofs.Lookups.{item_there, items_there}
+use Rattle.archive_hash_maps.specs.Places.{LooksUp, FindsAccepted, FindsTheOnly, calls}
+use Rattle.archive_hash_maps.proofs.Lookups.{item_there, items_there}
 use Rattle.archive_hash_maps.proofs.map.table.ArchivedHashTable.visit_seal_with.Goals as goal
 
 pub search_table-requires-clause-callable : goal.search_table-requires-clause-callable

@@ -1,7 +1,7 @@
 use Rattle.std.proofs.Common.{inl, inr}
 use Rattle.std.specs.Prelude.{⊤}
-use Rattle.archive_hash_walking.specs.Equal.{KeyHashesTo}
-use Rattle.archive_hash_walking.proofs.Lookups.{items_there}
+use Rattle.archive_hash_maps.specs.Equal.{KeyHashesTo}
+use Rattle.archive_hash_maps.proofs.Lookups.{items_there}
 use Rattle.archive_hash_maps.proofs.Paired.{entries_held}
 use Rattle.archive_hash_maps.specs.Sets.{kept_key, set_knows, key_positions}
 use Rattle.archive_hash_maps.proofs.Keyed.{unit_shape, all_keyed, one_unkeyed}

@@ -2,8 +2,8 @@ use Rattle.std.proofs.Common.{Some, None, refl}
 use Rattle.archive_forms_values.specs.Tuples.{tuple2}
 use Rattle.archive_shape_layout.specs.Shape.Shape.{tuple}
 use Rattle.archive_shape_layout.specs.Shape.Shapes.{no_shapes}
-use Rattle.archive_hash_walking.specs.Maps.{entry_at}
-use Rattle.archive_hash_walking.proofs.LookedUp.{looks_up_as}
+use Rattle.archive_hash_maps.specs.Maps.{entry_at}
+use Rattle.archive_hash_maps.proofs.LookedUp.{looks_up_as}
 use Rattle.archive_hash_maps.proofs.set.set.ArchivedHashSet.get.Goals as goal
 
 pub returns-in-Some-clause-answers : goal.returns-in-Some-clause-answers

@@ -1,5 +1,5 @@
 use Rattle.std.proofs.Common.{◌∙◌, length, ap, sym, arith}
-use Rattle.archive_hash.specs.HashWalking.Maps.{pair_at}
+use Rattle.archive_hash_maps.specs.Maps.{pair_at}
 use Rattle.archive_index.proofs.Walk.{walk_length}
 use Rattle.archive_index.proofs.map.iter.IterIterator.size_hint.Goals as goal
 

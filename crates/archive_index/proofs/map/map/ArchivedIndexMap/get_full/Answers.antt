@@ -1,14 +1,14 @@
 use Rattle.std.proofs.Common.{◌∙◌, Some, None, refl, ap}
-use Rattle.archive_shape.specs.ShapeLayout.Bytes.{word_at}
-use Rattle.archive_forms_writing.specs.FormsLaws.Sample.{number_shape}
-use Rattle.archive_shape.specs.ShapeLayout.Shape.Shapes.{no_shapes}
+use Rattle.archive_shape_layout.specs.Bytes.{word_at}
+use Rattle.archive_forms_laws.specs.Sample.{number_shape}
+use Rattle.archive_shape_layout.specs.Shape.Shapes.{no_shapes}
 use Rattle.archive_forms_values.specs.Parts.{HasValue}
 use Rattle.archive_forms_values.specs.Fields.{field_position}
-use Rattle.archive_hash.proofs.HashWalking.Entries.{entry_parts}
-use Rattle.archive_hash.proofs.HashWalking.Refs.{at_ref}
+use Rattle.archive_hash_maps.proofs.Entries.{entry_parts}
+use Rattle.archive_hash_maps.proofs.Refs.{at_ref}
 use Rattle.archive_index.specs.Lookups.{full_of, value_position_of}
 use Rattle.archive_index.specs.Maps.{entry_position}
-use Rattle.archive_hash.proofs.HashWalking.LookedUp.{looks_up_as}
+use Rattle.archive_hash_maps.proofs.LookedUp.{looks_up_as}
 use Rattle.archive_index.proofs.LookedUp.{full_is}
 use Rattle.archive_index.proofs.map.map.ArchivedIndexMap.get_full.Goals as goal
 

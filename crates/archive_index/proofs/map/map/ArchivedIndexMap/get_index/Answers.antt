@@ -1,9 +1,9 @@
-use Rattle.archive_shape.specs.ShapeLayout.Shape.Shapes.{no_shapes}
+use Rattle.archive_shape_layout.specs.Shape.Shapes.{no_shapes}
 use Rattle.archive_forms_values.specs.Tuples.{tuple2}
 use Rattle.archive_forms_values.specs.Parts.{HasValue, both}
 use Rattle.archive_forms_values.specs.Fields.{field_position}
-use Rattle.archive_hash.proofs.HashWalking.Entries.{entry_parts}
-use Rattle.archive_hash.proofs.HashWalking.Refs.{at_ref}
+use Rattle.archive_hash_maps.proofs.Entries.{entry_parts}
+use Rattle.archive_hash_maps.proofs.Refs.{at_ref}
 use Rattle.archive_index.proofs.map.map.ArchivedIndexMap.get_index.Goals as goal
 
 pub key-requires : goal.key-requires

@@ -1,9 +1,9 @@
 use Rattle.std.proofs.Common.{Some, None, refl, subst, arith}
-use Rattle.archive_shape.specs.ShapeLayout.Shape.Shapes.{no_shapes}
+use Rattle.archive_shape_layout.specs.Shape.Shapes.{no_shapes}
 use Rattle.archive_forms_values.specs.Parts.{HasValue}
 use Rattle.archive_forms_values.specs.Fields.{field_position}
 use Rattle.archive_forms_values.specs.Loans.{IsLent}
-use Rattle.archive_hash.proofs.HashWalking.Before.{value_within, key_before}
+use Rattle.archive_hash_maps.proofs.Before.{value_within, key_before}
 use Rattle.archive_forms_values.proofs.Lent.{lent_there}
 use Rattle.archive_index.proofs.map.map.ArchivedIndexMap.get_key_value_seal.Goals as goal
 

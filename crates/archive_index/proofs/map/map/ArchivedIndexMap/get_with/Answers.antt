@@ -1,8 +1,8 @@
 use Rattle.std.proofs.Common.{Some, None, refl}
-use Rattle.archive_shape.specs.ShapeLayout.Bytes.{word_at}
-use Rattle.archive_forms_writing.specs.FormsLaws.Sample.{number_shape}
+use Rattle.archive_shape_layout.specs.Bytes.{word_at}
+use Rattle.archive_forms_laws.specs.Sample.{number_shape}
 use Rattle.archive_index.specs.Lookups.{full_of}
-use Rattle.archive_hash.proofs.HashWalking.LookedUp.{looks_up_as}
+use Rattle.archive_hash_maps.proofs.LookedUp.{looks_up_as}
 use Rattle.archive_index.proofs.map.map.ArchivedIndexMap.get_with.Goals as goal
 
 pub returns-in-Some-clause-answers : goal.returns-in-Some-clause-answers

@@ -1,7 +1,7 @@
 use Rattle.std.proofs.Common.{◌∙◌, ◌+◌, ◌^◌, ◌<◌, map, All, sym, ap, subst, arith}
 use Rattle.archive_forms_values.specs.Parts.{HasValue}
-use Rattle.archive_hash.specs.HashWalking.Maps.{pair_at}
-use Rattle.archive_hash.proofs.HashMaps.Paired.{entries_held, values_fit, pairs_are}
+use Rattle.archive_hash_maps.specs.Maps.{pair_at}
+use Rattle.archive_hash_maps.proofs.Paired.{entries_held, values_fit, pairs_are}
 use Rattle.archive_index.specs.Maps.{entry_positions}
 use Rattle.archive_index.proofs.Standing.{map_of, all_entries, walk_fits}
 use Rattle.archive_index.proofs.map.map.ArchivedIndexMap.iter.Goals as goal

@@ -1,6 +1,6 @@
 use Rattle.std.proofs.Common.{rules, ◌≡◌, ◌∙◌, ◌+◌, subst, arith, inl}
 use Rattle.archive_shape.proofs.Spared.{spares_same}
-use Rattle.archive_hash.specs.HashMaps.Resolving.{IsRefused}
+use Rattle.archive_hash_maps.specs.Resolving.{IsRefused}
 use Rattle.archive_index.proofs.Resolved.{map_resolved}
 use Rattle.archive_index.proofs.map.map.ArchivedIndexMap.resolve_from_len.Goals as goal
 

@@ -1,8 +1,8 @@
-use Rattle.archive_forms_writing.specs.FormsLaws.SpellingLaws.{KnowsAll}
-use Rattle.archive_shape.specs.ShapeLayout.Shape.Shape.{table}
+use Rattle.archive_forms_laws.specs.SpellingLaws.{KnowsAll}
+use Rattle.archive_shape_layout.specs.Shape.Shape.{table}
 use Rattle.archive_forms_values.specs.Parts.{HasValue}
-use Rattle.archive_hash.proofs.HashWalking.Refs.{at_ref}
-use Rattle.archive_forms_writing.specs.FormsLaws.Sample.{number_shape}
+use Rattle.archive_hash_maps.proofs.Refs.{at_ref}
+use Rattle.archive_forms_laws.specs.Sample.{number_shape}
 use Rattle.archive_index.proofs.Standing.{has_table}
 use Rattle.archive_index.proofs.map.map.ArchivedIndexMap.table.Goals as goal
 

@@ -1,8 +1,8 @@
 use Rattle.std.proofs.Common.{◌∙◌, map, ap}
 use Rattle.std.proofs.lemmas.List.Elements.{All-map}
 use Rattle.archive_forms_values.specs.Parts.{HasValue}
-use Rattle.archive_hash.specs.HashWalking.Maps.{entry_at}
-use Rattle.archive_hash.proofs.HashMaps.Paired.{mapped}
+use Rattle.archive_hash_maps.specs.Maps.{entry_at}
+use Rattle.archive_hash_maps.proofs.Paired.{mapped}
 use Rattle.archive_index.specs.Maps.{entry_positions}
 use Rattle.archive_index.proofs.map.map.ArchivedIndexMap.values.Goals as goal
 

@@ -1,7 +1,7 @@
 use Rattle.std.proofs.Common.{Some, None, refl}
-use Rattle.archive_shape.specs.ShapeLayout.Bytes.{word_at}
-use Rattle.archive_forms_writing.specs.FormsLaws.Sample.{number_shape}
-use Rattle.archive_hash.proofs.HashWalking.LookedUp.{looks_up_as}
+use Rattle.archive_shape_layout.specs.Bytes.{word_at}
+use Rattle.archive_forms_laws.specs.Sample.{number_shape}
+use Rattle.archive_hash_maps.proofs.LookedUp.{looks_up_as}
 use Rattle.archive_index.specs.Lookups.{pair_of}
 use Rattle.archive_index.specs.Sets.{unit_shape}
 use Rattle.archive_index.proofs.set.set.ArchivedIndexSet.get.Goals as goal

@@ -1,10 +1,10 @@
 use Rattle.std.proofs.Common.{refl, subst, arith, ◌∙◌}
-use Rattle.archive_shape_writing.specs.Writing.{WriterMembers}
-use Rattle.archive_shape_writing.specs.Progress.{IsSet}
-use Rattle.archive_shape_writing.specs.Progress.Progress.{ended}
+use Rattle.archive_shape_layout.specs.Writing.{WriterMembers}
+use Rattle.archive_shape_layout.specs.Progress.{IsSet}
+use Rattle.archive_shape_layout.specs.Progress.Progress.{ended}
 use Rattle.archive_forms_writing.proofs.Laying.{Wrote, Fails}
 use Rattle.archive_core_serializing.specs.declared.serializer.Serializer.{Serializer}
-use Rattle.cabinet_documents.specs.TextGrammar.TextKey.{text_key}
+use Rattle.cabinet_text_grammar.specs.TextKey.{text_key}
 use Rattle.cabinet_documents.specs.SharedKeys.{key_of_text}
 use Rattle.cabinet_archived.specs.Sharing.{text_padding}
 use Rattle.cabinet_archived.specs.declared.sharing.node_share.NodeShare.{NodeShare}

@@ -1,6 +1,6 @@
 use Rattle.std.proofs.Common.{sym, ap, ◌∙◌}
 use Rattle.std.specs.BTreeMap.{get_by_text}
-use Rattle.cabinet_documents.proofs.TextGrammar.KeyLemmas.{key_has_text_law}
+use Rattle.cabinet_text_grammar.proofs.KeyLemmas.{key_has_text_law}
 use Rattle.cabinet_archived.specs.Sharing.{progress_at}
 use Rattle.cabinet_archived.proofs.sharing.text_share.TextShare.position.Goals as goal
 

@@ -1,5 +1,5 @@
 use Rattle.std.proofs.Common.{◌<◌, ◌^◌, ◌++◌, [], length, refl, sym, ap, ◌∙◌, arith}
-use Rattle.cabinet_text_nodes.specs.TextGrammar.Completing.{text_in}
+use Rattle.cabinet_text_grammar.specs.Completing.{text_in}
 use Rattle.cabinet_text_nodes.specs.View.{node_tree}
 use Rattle.cabinet_text_nodes.proofs.Entries.{legal_known, length_after}
 use Rattle.cabinet_archives.specs.Loading.{loaded_table}

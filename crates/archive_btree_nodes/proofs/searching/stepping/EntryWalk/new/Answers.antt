@@ -1,5 +1,0 @@
-use Rattle.std.proofs.Common.{refl}
-use Rattle.archive_btree_nodes.proofs.searching.stepping.EntryWalk.new.Goals as goal
-
-pub returns : goal.returns
-returns c t is = record { layout = refl; stands = c.at_root.ensures.stands; reached = c.at_root.ensures.reached; left = c.at_root.ensures.items t is }

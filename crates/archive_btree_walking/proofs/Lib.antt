@@ -1,9 +1,0 @@
-pub mod Between
-pub mod Held
-pub mod LookedUp
-pub mod One
-pub mod Read
-pub mod Refs
-pub mod Roots
-pub mod Runs
-pub mod Sealed

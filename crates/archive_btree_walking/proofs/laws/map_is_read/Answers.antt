@@ -1,5 +1,0 @@
-use Rattle.archive_btree_walking.proofs.Read.{map_is_read}
-use Rattle.archive_btree_walking.proofs.laws.map_is_read.Goals as goal
-
-pub returns : goal.returns
-returns g c bytes = map_is_read g.K.Portable.shape g.V.Portable.shape g.K.Portable.knows g.V.Portable.knows bytes g.row.E

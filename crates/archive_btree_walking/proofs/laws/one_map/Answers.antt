@@ -1,5 +1,0 @@
-use Rattle.archive_btree_walking.proofs.One.{one_map}
-use Rattle.archive_btree_walking.proofs.laws.one_map.Goals as goal
-
-pub returns : goal.returns
-returns c bytes most k v = one_map bytes most k v

@@ -1,5 +1,0 @@
-use Rattle.std.proofs.Common.{rules}
-use Rattle.archive_btree_walking.proofs.range.is_before.Goals as goal
-
-pub returns-in-Excluded : goal.returns-in-Excluded
-returns-in-Excluded g c = search rules

@@ -1,4 +1,0 @@
-pub mod Pairs
-pub mod Parts
-pub mod Shared
-pub mod Weak

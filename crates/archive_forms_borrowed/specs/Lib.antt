@@ -1,5 +1,0 @@
-pub mod Claims
-pub mod Elements
-pub mod Entries
-pub mod EntrySteps
-pub mod Pointed

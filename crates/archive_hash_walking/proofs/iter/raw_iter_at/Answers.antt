@@ -1,7 +1,0 @@
-use Rattle.std.proofs.Common.{◌∙◌, map, ap}
-use Rattle.archive_hash_walking.specs.Tables.{full_places}
-use Rattle.archive_hash_walking.proofs.Walked.{positions_of}
-use Rattle.archive_hash_walking.proofs.iter.raw_iter_at.Goals as goal
-
-pub returns : goal.returns
-returns g c b is = ap (map (λ e. e.2.pos)) (c.full_places_at.ensures.places b is) ∙ positions_of g.row.T.Denot c.args.bytes b.controls g.T.Portable.shape b.target (full_places b)

@@ -1,5 +1,0 @@
-use Rattle.archive_hash_walking.proofs.Passed.{keys_kept}
-use Rattle.archive_hash_walking.proofs.laws.keys_stay.Goals as goal
-
-pub returns : goal.returns
-returns g c m bytes written = keys_kept m bytes written

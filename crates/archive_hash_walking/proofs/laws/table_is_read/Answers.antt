@@ -1,5 +1,0 @@
-use Rattle.archive_hash_walking.proofs.Read.{table_is_read}
-use Rattle.archive_hash_walking.proofs.laws.table_is_read.Goals as goal
-
-pub returns : goal.returns
-returns g c bytes = table_is_read g.T.Portable.shape g.T.Portable.knows bytes

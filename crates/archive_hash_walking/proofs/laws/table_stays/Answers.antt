@@ -1,5 +1,0 @@
-use Rattle.archive_hash_walking.proofs.Stays.{table_stays}
-use Rattle.archive_hash_walking.proofs.laws.table_stays.Goals as goal
-
-pub returns : goal.returns
-returns g c m bytes written = table_stays g.T.Portable.shape g.T.Portable.knows m.bytes bytes m.pos m.buckets m.has m.places written

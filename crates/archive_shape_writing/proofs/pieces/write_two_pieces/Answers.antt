@@ -1,5 +1,0 @@
-use Rattle.archive_shape_writing.proofs.Joined.{appends_after}
-use Rattle.archive_shape_writing.proofs.pieces.write_two_pieces.Goals as goal
-
-pub returns : goal.returns
-returns g c = appends_after c.write-2.new.self c.args.second.now c.write-2.result c.in_ok-write.ensures c.write-2.ensures

@@ -1,4 +1,0 @@
--- What is cited of cabinet_text_grammar by way of this crate.
-pub use Rattle.cabinet_text_grammar.specs.Fault as Fault
-pub use Rattle.cabinet_text_grammar.specs.Spelling as Spelling
-pub use Rattle.cabinet_text_grammar.specs.Tree as Tree

@@ -1,3 +1,0 @@
--- What is cited of archive_btree_spelling by way of this crate.
-pub use Rattle.archive_btree_spelling.proofs.ItemPlaces as ItemPlaces
-pub use Rattle.archive_btree_spelling.proofs.PairsStand as PairsStand
