@@ -3,6 +3,7 @@ pub mod Checking
 pub mod Comparing
 pub mod Cursors
 pub mod CursorsOpened
+pub mod Layout
 pub mod Lending
 pub mod Lookups
 pub mod Ranges

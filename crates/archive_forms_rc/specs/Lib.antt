@@ -1,3 +1,4 @@
+pub mod Calls
 pub mod Compared
 pub mod Counted
 pub mod Pointers

@@ -1,10 +1,7 @@
 //! The writing of counted pointers, once the position of what they lead to is known.
-ghost use Rattle.std.specs.Prelude.{◌≡◌, ◌+◌, ◌^◌, ◌<◌, ◌≤◌, ◌++◌, ◌⊎◌, length, MatchResult};
-ghost use Rattle.std.specs.Int.{w32, to_le_bytes};
-ghost use Rattle.archive_shape.specs.Bytes.{overwrite};
-ghost use Rattle.archive_shape_layout.specs.declared.error.Error.TheVariants.{IsizeOverflow, LengthTooLarge};
-ghost use Rattle.archive_shape.specs.Offsets.{FitsOffset, offset_bytes};
+ghost use Rattle.std.specs.Prelude.{◌≡◌, ◌+◌, ◌≤◌, length};
 ghost use Rattle.archive_forms_rc.specs.WeakResolvers.{weak_resolver, counted_resolver};
+ghost use Rattle.archive_forms_values.specs.Calls.Writing.{ResolvesBox, ResolvesElements};
 
 use crate::{ArchivedRc, ArchivedRcSlice, ArchivedRcStr};
 use archive_forms_values::{ArchivedBox, ArchivedBoxedSlice, ArchivedBoxedStr, BoxResolver};
@@ -63,10 +60,7 @@ impl<T: Portable, L> ArchivedRc<T, L> {
         out: Place<'_, ArchivedRc<T, L>>,
     ) -> Result<(), Error>
         requires { out.start + 4 ≤ length out.out.now }
-        ensures { MatchResult result
-            (λ _. FitsOffset out.entry.pos resolver.pos
-            × (out.exit.0.now ≡ overwrite out.entry.out.now out.entry.start (offset_bytes out.entry.pos resolver.pos)))
-            (λ e. (e ≡ IsizeOverflow) × ((FitsOffset out.entry.pos resolver.pos → ⊥) × (out.exit.0.now ≡ out.entry.out.now))) }
+        ensures { ResolvesBox resolver.pos out.entry result out.exit.0.now }
     {
         let Place {
             out,
@@ -90,11 +84,7 @@ impl<T: Portable, L> ArchivedRcSlice<T, L> {
         out: Place<'_, ArchivedRcSlice<T, L>>,
     ) -> Result<(), Error>
         requires { out.start + 8 ≤ length out.out.now }
-        ensures { MatchResult result
-            (λ _. (FitsOffset out.entry.pos resolver.pos × (len < 2 ^ 32))
-            × (out.exit.0.now ≡ overwrite out.entry.out.now out.entry.start (offset_bytes out.entry.pos resolver.pos ++ to_le_bytes w32 len)))
-            (λ e. (((e ≡ LengthTooLarge) × (2 ^ 32 ≤ len)) ⊎ ((e ≡ IsizeOverflow) × (len < 2 ^ 32) × (FitsOffset out.entry.pos resolver.pos → ⊥)))
-            × (out.exit.0.now ≡ out.entry.out.now)) }
+        ensures { ResolvesElements resolver.pos len out.entry result out.exit.0.now }
     {
         let Place {
             out,
@@ -122,11 +112,7 @@ impl<L> ArchivedRcStr<L> {
         out: Place<'_, ArchivedRcStr<L>>,
     ) -> Result<(), Error>
         requires { out.start + 8 ≤ length out.out.now }
-        ensures { MatchResult result
-            (λ _. (FitsOffset out.entry.pos resolver.pos × (len < 2 ^ 32))
-            × (out.exit.0.now ≡ overwrite out.entry.out.now out.entry.start (offset_bytes out.entry.pos resolver.pos ++ to_le_bytes w32 len)))
-            (λ e. (((e ≡ LengthTooLarge) × (2 ^ 32 ≤ len)) ⊎ ((e ≡ IsizeOverflow) × (len < 2 ^ 32) × (FitsOffset out.entry.pos resolver.pos → ⊥)))
-            × (out.exit.0.now ≡ out.entry.out.now)) }
+        ensures { ResolvesElements resolver.pos len out.entry result out.exit.0.now }
     {
         let Place {
             out,

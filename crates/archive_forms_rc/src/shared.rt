@@ -1,15 +1,14 @@
 //! `ArchivedRc`, a counted pointer to a value: its layout, its check and the methods that read it.
-ghost use Rattle.std.specs.Prelude.{◌≡◌, ℕ, ◌+◌, ◌≤◌, length};
+ghost use Rattle.std.specs.Prelude.{◌≡◌, ◌+◌, ◌≤◌, length};
 ghost use Rattle.std.proofs.Common.{refl, lit<, lit≤};
 ghost use Rattle.archive_shape_layout.specs.Shape.Shape.{shared};
 ghost use Rattle.archive_shape_layout.specs.Shape.Pointee.{sized};
-ghost use Rattle.archive_shape_layout.specs.Content.{Names};
-ghost use Rattle.archive_shape_layout.specs.Content.Part.{at};
 ghost use Rattle.archive_shape.specs.Kept.{IsWithin};
-ghost use Rattle.archive_shape.specs.Checks.{Checks, Moves};
+ghost use Rattle.archive_shape.specs.Checks.{Moves};
 ghost use Rattle.archive_shape.specs.Steps.{StepTakes, StepChecks};
 ghost use Rattle.archive_forms_values.specs.Parts.{HasValue};
 ghost use Rattle.archive_forms_rc.specs.Pointers.{IsRcAt};
+ghost use Rattle.archive_forms_rc.specs.Calls.Checking.{ChecksRc};
 
 use crate::Flavor;
 use crate::visit::visit;
@@ -81,8 +80,7 @@ pub fn check_rc_each<
     requires takes { StepTakes F.Fn C.kept bytes.now T.shape step (C.kept context.old) T.SIZE }
     requires checks { StepChecks F.Fn C.kept bytes.now T.shape step T.knows }
     ensures moves { Moves (C.kept context.old) result (C.kept context.new) }
-    ensures exact { (names : Names) → T.knows names
-        → Checks names bytes.now (at pos (shared L.ALLOW_CYCLES (sized T.shape))) (C.kept context.old) result (C.kept context.new) }
+    ensures exact { ChecksRc C.kept T.Portable L.Flavor bytes.now pos context.old result context.new }
 {
     let _len = bytes.len();
     let size = T::SIZE;

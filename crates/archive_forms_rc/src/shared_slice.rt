@@ -1,15 +1,15 @@
 //! `ArchivedRcSlice`, a counted pointer to elements: its layout, its check and the methods that read it.
-ghost use Rattle.std.specs.Prelude.{◌≡◌, ℕ, ◌+◌, ◌≤◌, length};
+ghost use Rattle.std.specs.Prelude.{◌≡◌, ◌+◌, ◌≤◌, length};
 ghost use Rattle.std.proofs.Common.{refl, lit<, lit≤};
 ghost use Rattle.archive_shape_layout.specs.Shape.Shape.{shared};
 ghost use Rattle.archive_shape_layout.specs.Shape.Pointee.{slice};
-ghost use Rattle.archive_shape_layout.specs.Content.{Names};
-ghost use Rattle.archive_shape_layout.specs.Content.Part.{at};
 ghost use Rattle.archive_shape.specs.Kept.{IsWithin};
-ghost use Rattle.archive_shape.specs.Checks.{Checks, Moves};
+ghost use Rattle.archive_shape.specs.Checks.{Moves};
 ghost use Rattle.archive_shape.specs.Steps.{StepTakes, StepChecks};
 ghost use Rattle.archive_forms_values.specs.Parts.{HasValue};
 ghost use Rattle.archive_forms_rc.specs.Pointers.{IsRcSliceAt};
+ghost use Rattle.archive_forms_rc.specs.Calls.Checking.{ChecksRcSlice};
+ghost use Rattle.archive_forms_rc.specs.Calls.Leading.{LeadsToSlice};
 
 use crate::Flavor;
 use crate::visit::visit;
@@ -78,8 +78,7 @@ pub fn check_rc_slice_each<
     requires takes { StepTakes F.Fn C.kept bytes.now T.shape step (C.kept context.old) T.SIZE }
     requires checks { StepChecks F.Fn C.kept bytes.now T.shape step T.knows }
     ensures moves { Moves (C.kept context.old) result (C.kept context.new) }
-    ensures exact { (names : Names) → T.knows names
-        → Checks names bytes.now (at pos (shared L.ALLOW_CYCLES (slice T.shape))) (C.kept context.old) result (C.kept context.new) }
+    ensures exact { ChecksRcSlice C.kept T.Portable L.Flavor bytes.now pos context.old result context.new }
 {
     let _len = bytes.len();
     let pointer = Ref::<RelPtr<Slice<T>, ArchivedIsize>>::new(bytes, pos);
@@ -129,8 +128,7 @@ impl<T: Portable, L: Flavor> ArchivedRcSlice<T, L> {
     pub fn get<'a>(this: Ref<'a, ArchivedRcSlice<T, L>>) -> SliceRef<'a, T>
         requires { HasValue (shared L.ALLOW_CYCLES (slice T.shape)) T.knows this.bytes.now this.pos }
         ensures bytes { result.bytes ≡ this.entry.bytes }
-        ensures elements { IsRcSliceAt L.ALLOW_CYCLES T.shape T.knows this.entry.bytes.now
-            this.entry.pos result.pos result.len }
+        ensures elements { LeadsToSlice L.ALLOW_CYCLES T.shape T.knows this.entry result }
     {
         let (pos, len) = elements_at::<T, L>(this.bytes, this.pos);
         SliceRef {

@@ -1,14 +1,13 @@
 //! `ArchivedRcStr`, a counted pointer to a text: its layout, its check and the methods that read it.
-ghost use Rattle.std.specs.Prelude.{◌≡◌, ℕ, ◌+◌, ◌≤◌, [], length, refl, ⊤};
+ghost use Rattle.std.specs.Prelude.{◌+◌, ◌≤◌, [], length, refl, ⊤};
 ghost use Rattle.std.proofs.Common.{lit<, lit≤};
-ghost use Rattle.archive_shape_layout.specs.Bytes.{window};
 ghost use Rattle.archive_shape_layout.specs.Shape.Shape.{shared};
 ghost use Rattle.archive_shape_layout.specs.Shape.Pointee.{str};
-ghost use Rattle.archive_shape_layout.specs.Content.{Names};
-ghost use Rattle.archive_shape_layout.specs.Content.Part.{at};
 ghost use Rattle.archive_shape.specs.Kept.{IsWithin};
-ghost use Rattle.archive_shape.specs.Checks.{Checks, Moves};
+ghost use Rattle.archive_shape.specs.Checks.{Moves};
 ghost use Rattle.archive_forms_rc.specs.Pointers.{HasCounted, IsRcStrAt};
+ghost use Rattle.archive_forms_rc.specs.Calls.Checking.{ChecksRcStr};
+ghost use Rattle.archive_forms_rc.specs.Calls.Leading.{LeadsToStr};
 
 use crate::Flavor;
 use crate::visit::visit;
@@ -74,8 +73,7 @@ pub fn check_rc_str<L: Flavor, C: SharedContext>(
     requires fits { pos + 8 ≤ length bytes.now }
     requires range { IsWithin (C.kept context.old) (length bytes.now) }
     ensures moves { Moves (C.kept context.old) result (C.kept context.new) }
-    ensures exact { (names : Names)
-        → Checks names bytes.now (at pos (shared L.ALLOW_CYCLES str)) (C.kept context.old) result (C.kept context.new) }
+    ensures exact { ChecksRcStr C.kept L.Flavor bytes.now pos context.old result context.new }
 {
     let _len = bytes.len();
     let pointer = Ref::<RelPtr<Str, ArchivedIsize>>::new(bytes, pos);
@@ -109,8 +107,7 @@ impl<L: Flavor> ArchivedRcStr<L> {
     /// Returns the text that the pointer leads to.
     pub fn get<'a>(this: Ref<'a, ArchivedRcStr<L>>) -> &'a str
         requires { HasCounted L.ALLOW_CYCLES str (λ _. ⊤) this.bytes.now this.pos }
-        ensures { (to len : ℕ) × IsRcStrAt L.ALLOW_CYCLES this.entry.bytes.now this.entry.pos to len
-            × (result.now ≡ window this.entry.bytes.now to len) }
+        ensures { LeadsToStr L.ALLOW_CYCLES this.entry.bytes.now this.entry.pos result.now }
     {
         let (start, len) = text_at::<L>(this.bytes, this.pos);
         // The bytes there are UTF-8.

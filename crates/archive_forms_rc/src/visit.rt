@@ -1,6 +1,5 @@
 //! The start of the check of what a counted pointer leads to.
-ghost use Rattle.std.specs.Prelude.{◌≢◌, MatchResult};
-ghost use Rattle.archive_forms_rc.specs.Visits.{Visits, ClashesAt};
+ghost use Rattle.archive_forms_rc.specs.Calls.Checking.{StartsVisit};
 
 use crate::Flavor;
 use archive_shape::{ArchivePointee, Error, SharedContext, ValidationState};
@@ -17,9 +16,7 @@ pub(crate) fn visit<P: ArchivePointee, L: Flavor, C: SharedContext>(
     target: usize,
     len: usize,
 ) -> Result<bool, Error>
-    ensures { MatchResult result
-        (Visits L.ALLOW_CYCLES (C.kept context.old) target P.pointee len (C.kept context.new))
-        (λ e. e ≢ Error.OutOfMemory → ClashesAt L.ALLOW_CYCLES (C.kept context.old) target P.pointee len e) }
+    ensures { StartsVisit L.ALLOW_CYCLES C.kept target P.pointee len context.old result context.new }
 {
     let pointee = P::pointee(alloc)?;
     match context.start_shared(target, len, pointee)? {

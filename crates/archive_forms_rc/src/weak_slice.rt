@@ -1,16 +1,14 @@
 //! `ArchivedRcWeakSlice`, a weak pointer to elements or to nothing: its layout, its check and the methods that read it.
-ghost use Rattle.std.specs.Prelude.{◌≡◌, ℕ, ◌+◌, ◌≤◌, length, MatchOption};
+ghost use Rattle.std.specs.Prelude.{◌+◌, ◌≤◌, length};
 ghost use Rattle.std.proofs.Common.{refl, lit<, lit≤};
 ghost use Rattle.archive_shape_layout.specs.Shape.Shape.{weak};
 ghost use Rattle.archive_shape_layout.specs.Shape.Pointee.{slice};
-ghost use Rattle.archive_shape_layout.specs.Content.{Names};
-ghost use Rattle.archive_shape_layout.specs.Content.Part.{at};
 ghost use Rattle.archive_shape.specs.Kept.{IsWithin};
-ghost use Rattle.archive_shape.specs.Checks.{Checks, Moves};
+ghost use Rattle.archive_shape.specs.Checks.{Moves};
 ghost use Rattle.archive_shape.specs.Steps.{StepTakes, StepChecks};
 ghost use Rattle.archive_forms_values.specs.Parts.{HasValue};
-ghost use Rattle.archive_forms_rc.specs.Pointers.{IsRcSliceAt};
-ghost use Rattle.archive_forms_rc.specs.WeakPointers.{IsNothingAt, IsPointerAt};
+ghost use Rattle.archive_forms_rc.specs.Calls.Checking.{ChecksWeakSlice};
+ghost use Rattle.archive_forms_rc.specs.Calls.Leading.{UpgradesSlice};
 
 use crate::shared_slice::elements_at;
 use crate::{Flavor, check_rc_slice_each};
@@ -73,8 +71,7 @@ pub fn check_rc_weak_slice_each<
     requires takes { StepTakes F.Fn C.kept bytes.now T.shape step (C.kept context.old) T.SIZE }
     requires checks { StepChecks F.Fn C.kept bytes.now T.shape step T.knows }
     ensures moves { Moves (C.kept context.old) result (C.kept context.new) }
-    ensures exact { (names : Names) → T.knows names
-        → Checks names bytes.now (at pos (weak L.ALLOW_CYCLES (slice T.shape))) (C.kept context.old) result (C.kept context.new) }
+    ensures exact { ChecksWeakSlice C.kept T.Portable L.Flavor bytes.now pos context.old result context.new }
 {
     let _len = bytes.len();
     match bytes[pos] {
@@ -100,11 +97,7 @@ impl<T: Portable, L: Flavor> ArchivedRcWeakSlice<T, L> {
     /// Returns the elements, if the pointer leads to any.
     pub fn upgrade<'a>(this: Ref<'a, ArchivedRcWeakSlice<T, L>>) -> Option<SliceRef<'a, T>>
         requires { HasValue (weak L.ALLOW_CYCLES (slice T.shape)) T.knows this.bytes.now this.pos }
-        ensures { MatchOption result
-            (IsNothingAt L.ALLOW_CYCLES (slice T.shape) T.knows this.entry.bytes.now this.entry.pos)
-            (λ r. (r.bytes ≡ this.entry.bytes)
-            × IsPointerAt L.ALLOW_CYCLES (slice T.shape) T.knows this.entry.bytes.now this.entry.pos
-            × IsRcSliceAt L.ALLOW_CYCLES T.shape T.knows this.entry.bytes.now (this.entry.pos + 4) r.pos r.len) }
+        ensures { UpgradesSlice L.ALLOW_CYCLES T.shape T.knows this.entry result }
     {
         let Ref { bytes, pos, .. } = this;
         if bytes[pos] == 0 {

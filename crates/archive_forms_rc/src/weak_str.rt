@@ -1,16 +1,13 @@
 //! `ArchivedRcWeakStr`, a weak pointer to a text or to nothing: its layout, its check and the methods that read it.
-ghost use Rattle.std.specs.Prelude.{◌≡◌, ℕ, ◌+◌, ◌≤◌, [], length, MatchOption, ⊤};
+ghost use Rattle.std.specs.Prelude.{◌+◌, ◌≤◌, [], length, ⊤};
 ghost use Rattle.std.proofs.Common.{refl, lit<, lit≤};
-ghost use Rattle.archive_shape_layout.specs.Bytes.{window};
 ghost use Rattle.archive_shape_layout.specs.Shape.Shape.{weak};
 ghost use Rattle.archive_shape_layout.specs.Shape.Pointee.{str};
-ghost use Rattle.archive_shape_layout.specs.Content.{Names};
-ghost use Rattle.archive_shape_layout.specs.Content.Part.{at};
 ghost use Rattle.archive_shape.specs.Kept.{IsWithin};
-ghost use Rattle.archive_shape.specs.Checks.{Checks, Moves};
+ghost use Rattle.archive_shape.specs.Checks.{Moves};
 ghost use Rattle.archive_forms_values.specs.Parts.{HasValue};
-ghost use Rattle.archive_forms_rc.specs.Pointers.{IsRcStrAt};
-ghost use Rattle.archive_forms_rc.specs.WeakPointers.{IsNothingAt, IsPointerAt};
+ghost use Rattle.archive_forms_rc.specs.Calls.Checking.{ChecksWeakStr};
+ghost use Rattle.archive_forms_rc.specs.Calls.Leading.{UpgradesStr};
 
 use crate::{Acyclic, ArchivedRcStr, Flavor, check_rc_str};
 use archive_shape::{CheckBytes, Error, Pointee, Portable, Ref, Shape, SharedContext};
@@ -67,8 +64,7 @@ pub fn check_rc_weak_str<L: Flavor, C: SharedContext>(
     requires fits { pos + 12 ≤ length bytes.now }
     requires range { IsWithin (C.kept context.old) (length bytes.now) }
     ensures moves { Moves (C.kept context.old) result (C.kept context.new) }
-    ensures exact { (names : Names)
-        → Checks names bytes.now (at pos (weak L.ALLOW_CYCLES str)) (C.kept context.old) result (C.kept context.new) }
+    ensures exact { ChecksWeakStr C.kept L.Flavor bytes.now pos context.old result context.new }
 {
     let _len = bytes.len();
     match bytes[pos] {
@@ -88,11 +84,7 @@ impl<L: Acyclic> ArchivedRcWeakStr<L> {
     /// Returns the text, if the pointer leads to one.
     pub fn upgrade<'a>(this: Ref<'a, ArchivedRcWeakStr<L>>) -> Option<&'a str>
         requires { HasValue (weak L.ALLOW_CYCLES str) (λ _. ⊤) this.bytes.now this.pos }
-        ensures { MatchOption result
-            (IsNothingAt L.ALLOW_CYCLES str (λ _. ⊤) this.entry.bytes.now this.entry.pos)
-            (λ text. IsPointerAt L.ALLOW_CYCLES str (λ _. ⊤) this.entry.bytes.now this.entry.pos
-            × ((to len : ℕ) × IsRcStrAt L.ALLOW_CYCLES this.entry.bytes.now (this.entry.pos + 4) to len
-            × (text.now ≡ window this.entry.bytes.now to len))) }
+        ensures { UpgradesStr L.ALLOW_CYCLES this.entry result }
     {
         let Ref { bytes, pos, .. } = this;
         if bytes[pos] == 0 {

@@ -1,9 +1,7 @@
 -- An archived map has the entries that it was written of, and answers their keys.
 use Rattle.std.proofs.Common.{◌≡◌, ◌∙◌, ℕ, zero, suc, ◌^◌, ◌<◌, Bool, true, false, cond, List, [], ◌∷◌, length, map, get_or, slice_index, Option, Some, None, MatchOption, IsSome, inl, inr, refl, ap, sym, subst, arith}
-use Rattle.std.specs.Prelude.{⊤}
 use Rattle.std.specs.Option.{IsSomeAnd, option_map}
-use Rattle.std.specs.List.{All, AllZip, find}
-use Rattle.std.specs.List.Sorted.{IsPermutation}
+use Rattle.std.specs.List.{AllZip, find}
 use Rattle.std.specs.Ordering.{is_eq}
 use Rattle.std.specs.declared.cmp.Ordering.{Ordering}
 use Rattle.std.proofs.lemmas.Bool.{cases_Bool, cases_lt}

@@ -4,7 +4,6 @@ ghost use Rattle.archive_shape_layout.specs.Shape.Shape.{table};
 ghost use Rattle.archive_forms_values.specs.Tuples.{tuple2};
 ghost use Rattle.archive_forms_laws.specs.Fields.{tuple2_spelling};
 ghost use Rattle.archive_forms_laws.specs.Forms.{seen_as};
-ghost use Rattle.archive_forms_laws.specs.Serializing.{CanResolve, Resolves};
 ghost use Rattle.archive_forms_laws.proofs.Fields.{tuple2_spells};
 ghost use Rattle.archive_forms_laws.proofs.Views.{kept_spells, known_spells, seen_spells_at};
 ghost use Rattle.archive_forms_values.specs.Parts.{both};
@@ -12,6 +11,7 @@ ghost use Rattle.archive_hash_probing.specs.Inputs.{input_hash};
 ghost use Rattle.archive_hash_probing.proofs.Small.{input_hash_small};
 ghost use Rattle.archive_hash_writing.proofs.SpellingTables.{table_spells};
 ghost use Rattle.archive_hash.specs.Owned.{entries_spelling};
+ghost use Rattle.archive_hash.specs.Calls.Owned.{CanResolveMap, ResolvesMap};
 
 use crate::map::{LOAD_FACTOR, OwnedHashMap};
 use archive_forms_writing::Archive;
@@ -32,8 +32,9 @@ impl<K: Archive + Eq + Hash, V: Archive> Archive for OwnedHashMap<K, V> {
         resolver: HashTableResolver,
         out: Place<'_, ArchivedHashMap<K::Archived, V::Archived, FxHasher64>>,
     ) -> Result<(), Error>
-        requires { CanResolve (seen_as (λ m. m.map.entries) (entries_spelling (λ k. input_hash (K.hash_input k)) K.Archived.shape V.Archived.shape K.spelling V.spelling)) (table (tuple2 K.Archived.shape V.Archived.shape)) self.now resolver out.out.now out.start out.pos }
-        ensures { Resolves (seen_as (λ m. m.map.entries) (entries_spelling (λ k. input_hash (K.hash_input k)) K.Archived.shape V.Archived.shape K.spelling V.spelling)) (table (tuple2 K.Archived.shape V.Archived.shape)) self.now resolver out.entry.pos out.entry.start out.entry.out.now out.exit.0.now result }
+        requires { CanResolveMap K.Hash K.Archived.shape V.Archived.shape K.spelling V.spelling self.now resolver out }
+        ensures { ResolvesMap K.Hash K.Archived.shape V.Archived.shape K.spelling V.spelling self.now resolver
+            out.entry out.exit result }
     {
         let Place {
             out,

@@ -5,7 +5,6 @@ ghost use Rattle.archive_shape_layout.specs.Shape.Shapes.{no_shapes};
 ghost use Rattle.archive_forms_values.specs.Tuples.{tuple2};
 ghost use Rattle.archive_forms_laws.specs.Fields.{tuple2_spelling, unit_spelling};
 ghost use Rattle.archive_forms_laws.specs.Forms.{seen_as};
-ghost use Rattle.archive_forms_laws.specs.Serializing.{CanResolve, Resolves};
 ghost use Rattle.archive_forms_laws.proofs.Fields.{tuple2_spells, unit_spells};
 ghost use Rattle.archive_forms_laws.proofs.Views.{kept_spells, known_spells, seen_spells_at};
 ghost use Rattle.archive_hash_maps.specs.Sets.{set_shape, set_knows};
@@ -13,6 +12,7 @@ ghost use Rattle.archive_hash_probing.specs.Inputs.{input_hash};
 ghost use Rattle.archive_hash_probing.proofs.Small.{input_hash_small};
 ghost use Rattle.archive_hash_writing.proofs.SpellingTables.{table_spells};
 ghost use Rattle.archive_hash.specs.Owned.{entries_spelling, key_entries};
+ghost use Rattle.archive_hash.specs.Calls.Owned.{CanResolveSet, ResolvesSet};
 
 use crate::OwnedHashSet;
 use crate::map::LOAD_FACTOR;
@@ -34,8 +34,8 @@ impl<K: Archive + Eq + Hash> Archive for OwnedHashSet<K> {
         resolver: HashTableResolver,
         out: Place<'_, ArchivedHashSet<K::Archived, FxHasher64>>,
     ) -> Result<(), Error>
-        requires { CanResolve (seen_as (λ s. key_entries s.set.keys) (entries_spelling (λ k. input_hash (K.hash_input k)) K.Archived.shape (tuple no_shapes) K.spelling unit_spelling)) (set_shape K.Archived.shape) self.now resolver out.out.now out.start out.pos }
-        ensures { Resolves (seen_as (λ s. key_entries s.set.keys) (entries_spelling (λ k. input_hash (K.hash_input k)) K.Archived.shape (tuple no_shapes) K.spelling unit_spelling)) (set_shape K.Archived.shape) self.now resolver out.entry.pos out.entry.start out.entry.out.now out.exit.0.now result }
+        requires { CanResolveSet K.Hash K.Archived.shape K.spelling self.now resolver out }
+        ensures { ResolvesSet K.Hash K.Archived.shape K.spelling self.now resolver out.entry out.exit result }
     {
         let Place {
             out,

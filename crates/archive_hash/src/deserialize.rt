@@ -1,13 +1,12 @@
 //! Reads archived maps back as maps of std.
-ghost use Rattle.std.specs.Prelude.{length, IfOk};
-ghost use Rattle.archive_shape_layout.specs.Shape.Shape.{table};
-ghost use Rattle.archive_forms_values.specs.Tuples.{tuple2};
-ghost use Rattle.archive_forms_values.specs.Parts.{HasValue, both};
-ghost use Rattle.archive_forms.specs.Deserializing.{Deserializes, DeserializesBy};
+ghost use Rattle.std.specs.Prelude.{IfOk};
+ghost use Rattle.archive_forms_values.specs.Parts.{HasValue};
+ghost use Rattle.archive_forms.specs.Deserializing.{DeserializesBy};
 ghost use Rattle.archive_forms.specs.Keeping.{both_of};
-ghost use Rattle.archive_forms.specs.Steps.{StepTakes, StepReads};
 ghost use Rattle.archive_hash.specs.ReadBack.{reads_map};
 ghost use Rattle.archive_hash_maps.specs.Maps.{HasMap};
+ghost use Rattle.archive_hash.specs.Calls.Reading.{StepTakesAll, DeserializesMap};
+ghost use Rattle.archive_forms.specs.Calls.Steps.{StepReadsBack};
 
 use crate::OwnedHashMap;
 use archive_forms::{Deserialize, Deserializer, ReadBack, deserialize_element};
@@ -40,15 +39,11 @@ pub fn deserialize_hash_map_each<
 ) -> Result<OwnedHashMap<K, V>, Error>
     requires there { HasMap A.shape B.shape A.knows B.knows this }
     requires kept { D.is_of deserializer.old this.bytes.now }
-    requires takes_key { StepTakes F.Fn read_key A.shape A.knows D.is_of this.bytes.now
-        (length this.bytes.now) }
-    requires reads_key { StepReads F.Fn read_key A.shape A.knows D.is_of this.bytes.now (λ q. q.0) A.reads }
-    requires takes_value { StepTakes G.Fn read_value B.shape B.knows D.is_of this.bytes.now
-        (length this.bytes.now) }
-    requires reads_value { StepReads G.Fn read_value B.shape B.knows D.is_of this.bytes.now (λ q. q.0) B.reads }
-    ensures value { Deserializes (reads_map K.eq (λ m. m.map.entries) A.reads B.reads)
-        (table (tuple2 A.shape B.shape)) (both A.knows B.knows) this.entry.bytes.now
-        this.entry.pos result }
+    requires takes_key { StepTakesAll F.Fn read_key A.ReadBack D.is_of this.bytes.now }
+    requires reads_key { StepReadsBack F.Fn read_key A.ReadBack D.is_of this.bytes.now }
+    requires takes_value { StepTakesAll G.Fn read_value B.ReadBack D.is_of this.bytes.now }
+    requires reads_value { StepReadsBack G.Fn read_value B.ReadBack D.is_of this.bytes.now }
+    ensures value { DeserializesMap K.eq A.ReadBack B.ReadBack this.entry result }
     ensures keeps { IfOk result (λ _. D.is_of deserializer.new this.entry.bytes.now) }
 {
     let mut map = HashMap::new(alloc);

@@ -1,13 +1,11 @@
 //! Writes tables of the entries that an iterator returns.
 ghost use Rattle.std.specs.Prelude.{◌≡◌, ◌-◌, ◌^◌, ◌<◌};
-ghost use Rattle.std.specs.Iterator.{Drains, IsFinite};
-ghost use Rattle.std.specs.Map.Iter.{deref_pair};
+ghost use Rattle.std.specs.Iterator.{IsFinite};
 ghost use Rattle.std.specs.Option.{option_map};
-ghost use Rattle.archive_forms_writing.specs.Entries.{entry_spelling};
-ghost use Rattle.archive_forms_laws.specs.Serializing.{HasState, SerializesBy};
-ghost use Rattle.archive_forms_laws.specs.Taking.{GivesAs};
+ghost use Rattle.archive_forms_laws.specs.Serializing.{HasState};
 ghost use Rattle.archive_hash_probing.specs.Inputs.{input_hash};
-ghost use Rattle.archive_hash.specs.Given.{TakesGiven, WritesEntries, entry_of, pair_of};
+ghost use Rattle.archive_hash.specs.Given.{TakesGiven, entry_of, pair_of};
+ghost use Rattle.archive_hash.specs.Calls.Entries.{SerializesEntry, WritesGiven};
 
 use crate::entry_with::EntryWith;
 use archive_forms_values::Entry;
@@ -69,9 +67,8 @@ fn serialize_by_step<
     requires taken { C.takes step.now with.now (entry_of entry.now) }
     requires room { S.failures serializer.old < 2 ^ 64 - 1 }
     requires state { HasState S.pos S.known serializer.old }
-    ensures { SerializesBy (λ q. q.0)
-        (entry_spelling K.Archived.shape K.spelling A.Archived.shape (A.spelling with.now)) S.Writer entry.now
-        serializer.old serializer.new result }
+    ensures { SerializesEntry K.Archived.shape K.spelling A.Archived.shape (A.spelling with.now)
+        S.Writer entry.now serializer.old serializer.new result }
 {
     match step.serialize_entry(with, entry.key, entry.value, serializer) {
         Ok(done) => Ok((
@@ -108,8 +105,7 @@ pub(crate) fn serialize_entries_scan_each<
     requires room { S.failures serializer.old < 2 ^ 64 - 1 }
     requires state { HasState S.pos S.known serializer.old }
     requires takes { TakesGiven I.next_gives (C.takes step.now) with.now pairs }
-    ensures { WritesEntries (Drains (GivesAs deref_pair I.next_gives) pairs)
-        (λ k. input_hash (K.hash_input k)) load_factor K.Archived.shape A.Archived.shape K.spelling
+    ensures { WritesGiven I.next_gives pairs K.Hash load_factor K.Archived.shape A.Archived.shape K.spelling
         (A.spelling with.now) S.Writer len serializer.old serializer.new result }
 {
     let entries = Entries {
@@ -144,8 +140,7 @@ pub(crate) fn serialize_entries_scan_each<
             requires taken { C.takes step.now with.now (entry_of entry.now) }
             requires room { S.failures s.old < 2 ^ 64 - 1 }
             requires state { HasState S.pos S.known s.old }
-            ensures { SerializesBy (λ q. q.0)
-                (entry_spelling K.Archived.shape K.spelling A.Archived.shape (A.spelling with.entry.now))
+            ensures { SerializesEntry K.Archived.shape K.spelling A.Archived.shape (A.spelling with.entry.now)
                 S.Writer entry.now s.old s.new result }
         { serialize_by_step(with, entry, s, step) },
     )

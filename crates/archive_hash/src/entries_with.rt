@@ -1,11 +1,10 @@
 //! Writes the entries of an ordered map of std as a hash table, where the values need not be archived by `Archive`.
 ghost use Rattle.std.specs.Prelude.{◌≡◌, ◌-◌, ◌^◌, ◌<◌, length, map};
 ghost use Rattle.std.specs.Map.Iter.{TakesFirst, deref_pair};
-ghost use Rattle.archive_forms_laws.specs.Serializing.{HasState, Serializes};
+ghost use Rattle.archive_forms_laws.specs.Serializing.{HasState};
 ghost use Rattle.archive_forms_writing.specs.Steps.{StepTakes, StepWrites};
-ghost use Rattle.archive_hash_probing.specs.Inputs.{input_hash};
 ghost use Rattle.archive_hash.specs.Given.{TakesGiven};
-ghost use Rattle.archive_hash.specs.Owned.{entries_spelling};
+ghost use Rattle.archive_hash.specs.Calls.Owned.{SerializesEntries};
 
 use crate::entries::serialize_entries_scan_each;
 use crate::map::LOAD_FACTOR;
@@ -38,7 +37,7 @@ fn serialize_ordered_rest_each<
     requires room { S.failures serializer.old < 2 ^ 64 - 1 }
     requires state { HasState S.pos S.known serializer.old }
     requires takes { TakesGiven (TakesFirst deref_pair) (C.takes step.now) with.now pairs }
-    ensures { Serializes (entries_spelling (λ k. input_hash (K.hash_input k)) K.Archived.shape A.Archived.shape K.spelling (A.spelling with.now))
+    ensures { SerializesEntries K.Hash K.Archived.shape A.Archived.shape K.spelling (A.spelling with.now)
         S.Writer pairs.entry serializer.old serializer.new result }
 {
     serialize_entries_scan_each::<Group, K, V, A, S, _, C>(
@@ -74,7 +73,7 @@ pub fn serialize_entries_with_each<
     requires writes_key { StepWrites F.Fn (λ q. q.0) K.spelling S.Writer key_step }
     requires takes_value { StepTakes G.Fn S.Writer value_step (map (λ e. e.1) entries.now.entries) }
     requires writes_value { StepWrites G.Fn (λ q. q.0) (A.spelling with.now) S.Writer value_step }
-    ensures { Serializes (entries_spelling (λ k. input_hash (K.hash_input k)) K.Archived.shape A.Archived.shape K.spelling (A.spelling with.now))
+    ensures { SerializesEntries K.Hash K.Archived.shape A.Archived.shape K.spelling (A.spelling with.now)
         S.Writer entries.now.entries serializer.old serializer.new result }
 {
     let step = EntryParts {

@@ -4,11 +4,12 @@ ghost use Rattle.archive_forms_values.specs.Tuples.{tuple2};
 ghost use Rattle.archive_forms_writing.specs.Entries.{entry_spelling};
 ghost use Rattle.archive_forms_laws.specs.Fields.{tuple2_spelling};
 ghost use Rattle.archive_forms_laws.specs.Forms.{seen_as};
-ghost use Rattle.archive_forms_laws.specs.Serializing.{CanResolve, Resolves};
 ghost use Rattle.archive_forms_laws.proofs.Fields.{tuple2_spells};
 ghost use Rattle.archive_forms_laws.proofs.Views.{kept_spells, known_spells, seen_spells};
 ghost use Rattle.archive_hash_writing.specs.Beside.{beside_spelling};
 ghost use Rattle.archive_hash_writing.proofs.Beside.{beside_spells};
+ghost use Rattle.archive_hash.specs.Calls.Entries.{CanResolveBeside, ResolvesBeside};
+ghost use Rattle.archive_forms_writing.specs.Calls.Pairs.{CanResolveEntry, ResolvesEntry};
 
 use archive_forms_values::Entry;
 use archive_forms_writing::{Archive, ArchiveWith, EntryAdapter, EntryResolver};
@@ -29,10 +30,8 @@ impl<'a, V, A: ArchiveWith<V>> Archive for ValueWith<'a, V, A> {
     ghost spelling = { seen_as (λ v. (v.with.now, v.value.now)) (beside_spelling A.spelling) };
 
     fn resolve(&self, resolver: A::Resolver, out: Place<'_, A::Archived>) -> Result<(), Error>
-        requires { CanResolve (seen_as (λ v. (v.with.now, v.value.now)) (beside_spelling A.spelling))
-            A.Archived.shape self.now resolver out.out.now out.start out.pos }
-        ensures { Resolves (seen_as (λ v. (v.with.now, v.value.now)) (beside_spelling A.spelling))
-            A.Archived.shape self.now resolver out.entry.pos out.entry.start out.entry.out.now out.exit.0.now result }
+        requires { CanResolveBeside A.spelling A.Archived.shape self.now resolver out }
+        ensures { ResolvesBeside A.spelling A.Archived.shape self.now resolver out.entry out.exit result }
     {
         let Place {
             out,
@@ -68,11 +67,10 @@ impl<'a, 'b, K: Archive, V, A: ArchiveWith<V>> ArchiveWith<EntryAdapter<'b, K, V
         resolver: EntryResolver<K::Resolver, A::Resolver>,
         out: Place<'_, Entry<K::Archived, A::Archived>>,
     ) -> Result<(), Error>
-        requires { CanResolve (entry_spelling K.Archived.shape K.spelling A.Archived.shape (A.spelling self.now.values.now))
-            (tuple2 K.Archived.shape A.Archived.shape) entry.now resolver out.out.now out.start out.pos }
-        ensures { Resolves (entry_spelling K.Archived.shape K.spelling A.Archived.shape (A.spelling self.now.values.now))
-            (tuple2 K.Archived.shape A.Archived.shape) entry.now resolver out.entry.pos out.entry.start
-            out.entry.out.now out.exit.0.now result }
+        requires { CanResolveEntry K.Archived.shape K.spelling A.Archived.shape (A.spelling self.now.values.now)
+            entry.now resolver out }
+        ensures { ResolvesEntry K.Archived.shape K.spelling A.Archived.shape (A.spelling self.now.values.now)
+            entry.now resolver out.entry out.exit result }
     {
         let Place {
             out,

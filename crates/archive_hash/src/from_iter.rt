@@ -1,11 +1,8 @@
 //! Writes tables of the entries of a map that an iterator returns.
 ghost use Rattle.std.specs.Prelude.{ℕ, ◌-◌, ◌^◌, ◌<◌};
-ghost use Rattle.std.specs.Iterator.{Drains, IsFiniteIterable};
-ghost use Rattle.std.specs.Map.Iter.{deref_pair};
+ghost use Rattle.std.specs.Iterator.{IsFiniteIterable};
 ghost use Rattle.archive_forms_laws.specs.Serializing.{HasState};
-ghost use Rattle.archive_forms_laws.specs.Taking.{GivesAs};
-ghost use Rattle.archive_hash_probing.specs.Inputs.{input_hash};
-ghost use Rattle.archive_hash.specs.Given.{WritesEntries};
+ghost use Rattle.archive_hash.specs.Calls.Entries.{WritesCollected};
 
 use crate::entries::serialize_entries_scan_each;
 use archive_forms_writing::{ByArchive, Serialize, SerializeEntry};
@@ -40,9 +37,8 @@ pub fn serialize_map_from_iter<
     requires state { HasState S.pos S.known serializer.old }
     requires ends { IsFiniteIterable I.into_iter_gives I.IntoIter.can_next
         I.IntoIter.remaining entries }
-    ensures { WritesEntries (λ es. (it : I.IntoIter) × I.into_iter_gives entries it
-        × Drains (GivesAs deref_pair I.IntoIter.next_gives) it es)
-        (λ k. input_hash (K.hash_input k)) load_factor K.Archived.shape V.Archived.shape K.spelling V.spelling S.Writer len serializer.old serializer.new result }
+    ensures { WritesCollected I.into_iter_gives I.IntoIter.next_gives entries K.Hash load_factor K.Archived.shape
+        V.Archived.shape K.spelling V.spelling S.Writer len serializer.old serializer.new result }
 {
     let pairs = entries.into_iter();
     serialize_entries_scan_each::<Group, K, V, ByArchive, S, I::IntoIter, SerializeEntry>(

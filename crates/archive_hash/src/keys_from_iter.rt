@@ -1,15 +1,10 @@
 //! Writes tables of the keys of a set that an iterator returns.
 ghost use Rattle.std.specs.Prelude.{◌≡◌, ℕ, ◌-◌, ◌^◌, ◌<◌};
-ghost use Rattle.std.specs.Iterator.{Drains, IsFinite, IsFiniteIterable};
+ghost use Rattle.std.specs.Iterator.{IsFinite, IsFiniteIterable};
 ghost use Rattle.std.specs.Option.{option_map};
-ghost use Rattle.archive_shape_layout.specs.Shape.Shape.{tuple};
-ghost use Rattle.archive_shape_layout.specs.Shape.Shapes.{no_shapes};
-ghost use Rattle.archive_forms_writing.specs.Entries.{entry_spelling};
-ghost use Rattle.archive_forms_laws.specs.Fields.{unit_spelling};
-ghost use Rattle.archive_forms_laws.specs.Serializing.{HasState, SerializesBy};
-ghost use Rattle.archive_forms_laws.specs.Taking.{GivesAs};
+ghost use Rattle.archive_forms_laws.specs.Serializing.{HasState};
 ghost use Rattle.archive_hash_probing.specs.Inputs.{input_hash};
-ghost use Rattle.archive_hash.specs.Given.{WritesEntries, key_entry};
+ghost use Rattle.archive_hash.specs.Calls.Entries.{SerializesKey, WritesGivenKeys, WritesCollectedKeys};
 
 use archive_forms_values::Entry;
 use archive_forms_writing::{EntryAdapter, EntryResolver, Serialize, serialize_element};
@@ -63,9 +58,8 @@ fn serialize_given_keys<
     requires calls { J.can_next keys × IsFinite (J.remaining keys) }
     requires room { S.failures serializer.old < 2 ^ 64 - 1 }
     requires state { HasState S.pos S.known serializer.old }
-    ensures { WritesEntries (Drains (GivesAs key_entry J.next_gives) keys)
-        (λ k. input_hash (K.hash_input k)) load_factor K.Archived.shape
-        (tuple no_shapes) K.spelling unit_spelling S.Writer len serializer.old serializer.new result }
+    ensures { WritesGivenKeys J.next_gives keys K.Hash load_factor K.Archived.shape K.spelling S.Writer len
+        serializer.old serializer.new result }
 {
     let entries = KeysBesideUnits {
         keys,
@@ -95,9 +89,7 @@ fn serialize_given_keys<
         >
             requires room { S.failures s.old < 2 ^ 64 - 1 }
             requires state { HasState S.pos S.known s.old }
-            ensures { SerializesBy (λ q. q.0)
-                (entry_spelling K.Archived.shape K.spelling (tuple no_shapes) unit_spelling)
-                S.Writer entry.now s.old s.new result }
+            ensures { SerializesKey K.Archived.shape K.spelling S.Writer entry.now s.old s.new result }
         { serialize_element(entry, s) },
     )
 }
@@ -121,9 +113,8 @@ pub fn serialize_set_from_iter<
     requires room { S.failures serializer.old < 2 ^ 64 - 1 }
     requires state { HasState S.pos S.known serializer.old }
     requires ends { IsFiniteIterable I.into_iter_gives I.IntoIter.can_next I.IntoIter.remaining keys }
-    ensures { WritesEntries (λ es. (it : I.IntoIter) × I.into_iter_gives keys it
-        × Drains (GivesAs key_entry I.IntoIter.next_gives) it es)
-        (λ k. input_hash (K.hash_input k)) load_factor K.Archived.shape (tuple no_shapes) K.spelling unit_spelling S.Writer len serializer.old serializer.new result }
+    ensures { WritesCollectedKeys I.into_iter_gives I.IntoIter.next_gives keys K.Hash load_factor
+        K.Archived.shape K.spelling S.Writer len serializer.old serializer.new result }
 {
     let keys = keys.into_iter();
     serialize_given_keys::<S, K, I::IntoIter>(len, keys, load_factor, serializer)

@@ -1,10 +1,5 @@
 //! The laws of all parts of `archive_hash`. Each is a function with an empty body, whose contract is the law.
-ghost use Rattle.std.specs.Prelude.{ℕ, List, length};
-ghost use Rattle.archive_shape_layout.specs.Shape.Shape.{table};
-ghost use Rattle.archive_shape_layout.specs.Holds.{root_position};
-ghost use Rattle.archive_forms_values.specs.Tuples.{tuple2};
-ghost use Rattle.archive_hash_maps.specs.Maps.{HashesTo};
-ghost use Rattle.archive_hash.specs.Answering.{IsWrittenMap, AnswersKeys};
+ghost use Rattle.archive_hash.specs.Calls.Laws.{WrittenMapAnswers};
 
 use crate::keys::HashedKeyOf;
 use archive_forms_writing::Archive;
@@ -24,9 +19,6 @@ use std::hash::{Hash, Hasher};
 pub fn written_map_answers<Q: Hash, K: Archive + Hash, V: Archive>()
 where
     K::Archived: HashedKeyOf<K, Q>,
-    ensures { (bytes : List ℕ) (es : List (K × V))
-        → IsWrittenMap K.Archived.shape V.Archived.shape K.Archived.knows V.Archived.knows K.spelling V.spelling bytes K.hash_input es
-        → AnswersKeys K.Archived.shape V.Archived.shape K.Archived.knows V.Archived.knows K.spelling V.spelling bytes K.Archived.key K.Archived.order
-        (λ query. HashesTo ⟦<FxHasher64 as Default>⟧.is_default ⟦<FxHasher64 as Hasher>⟧.write ⟦<FxHasher64 as Hasher>⟧.finish (Q.hash_input query))
-        K.Archived.key_of (root_position (length bytes) (table (tuple2 K.Archived.shape V.Archived.shape))) es }
+    ensures { WrittenMapAnswers K.Archived.HashedKey K.Archived.key V.Archived.Portable K.spelling V.spelling K.Hash Q.Hash
+        ⟦<FxHasher64 as Default>⟧ ⟦<FxHasher64 as Hasher>⟧ }
 {}

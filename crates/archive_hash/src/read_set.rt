@@ -1,16 +1,14 @@
 //! Reads archived sets back as sets of std.
-ghost use Rattle.std.specs.Prelude.{length, IfOk, ⊤};
-ghost use Rattle.archive_shape_layout.specs.Shape.Shape.{table, tuple};
-ghost use Rattle.archive_shape_layout.specs.Shape.Shapes.{no_shapes};
-ghost use Rattle.archive_forms_values.specs.Tuples.{tuple2};
+ghost use Rattle.std.specs.Prelude.{IfOk};
 ghost use Rattle.archive_forms_laws.specs.Fields.{unit_spelling};
-ghost use Rattle.archive_forms_values.specs.Parts.{HasValue, both};
-ghost use Rattle.archive_forms.specs.Deserializing.{Deserializes, DeserializesBy};
+ghost use Rattle.archive_forms_values.specs.Parts.{HasValue};
+ghost use Rattle.archive_forms.specs.Deserializing.{DeserializesBy};
 ghost use Rattle.archive_forms.specs.Reading.{reads_as};
-ghost use Rattle.archive_forms.specs.Steps.{StepTakes, StepReads};
 ghost use Rattle.archive_hash_maps.specs.Sets.{HasSet};
 ghost use Rattle.archive_hash.specs.Owned.{key_entries};
 ghost use Rattle.archive_hash.specs.ReadBack.{reads_map};
+ghost use Rattle.archive_hash.specs.Calls.Reading.{StepTakesAll, DeserializesSet};
+ghost use Rattle.archive_forms.specs.Calls.Steps.{StepReadsBack};
 
 use crate::OwnedHashSet;
 use archive_forms::{Deserialize, Deserializer, ReadBack, deserialize_element};
@@ -38,12 +36,9 @@ pub fn deserialize_hash_set_each<
 ) -> Result<OwnedHashSet<K>, Error>
     requires there { HasSet A.shape A.knows this.bytes.now this.pos }
     requires kept { D.is_of deserializer.old this.bytes.now }
-    requires takes_key { StepTakes F.Fn read_key A.shape A.knows D.is_of this.bytes.now
-        (length this.bytes.now) }
-    requires reads_key { StepReads F.Fn read_key A.shape A.knows D.is_of this.bytes.now (λ q. q.0) A.reads }
-    ensures value { Deserializes (reads_map K.eq (λ s. key_entries s.set.keys) A.reads
-        (reads_as unit_spelling)) (table (tuple2 A.shape (tuple no_shapes))) (both A.knows (λ _. ⊤))
-        this.entry.bytes.now this.entry.pos result }
+    requires takes_key { StepTakesAll F.Fn read_key A.ReadBack D.is_of this.bytes.now }
+    requires reads_key { StepReadsBack F.Fn read_key A.ReadBack D.is_of this.bytes.now }
+    ensures value { DeserializesSet K.eq A.ReadBack this.entry result }
     ensures keeps { IfOk result (λ _. D.is_of deserializer.new this.entry.bytes.now) }
 {
     let mut set = HashSet::new(alloc);

@@ -1,11 +1,9 @@
 //! Writes maps of std as hash tables.
 ghost use Rattle.std.specs.Prelude.{◌≡◌, ◌-◌, ◌^◌, ◌<◌, All, length};
 ghost use Rattle.std.specs.Map.Iter.{TakesFirst, deref_pair};
-ghost use Rattle.archive_forms_laws.specs.Forms.{seen_as};
-ghost use Rattle.archive_forms_laws.specs.Serializing.{HasState, Serializes};
-ghost use Rattle.archive_hash_probing.specs.Inputs.{input_hash};
+ghost use Rattle.archive_forms_laws.specs.Serializing.{HasState};
 ghost use Rattle.archive_hash.specs.Given.{TakesGiven};
-ghost use Rattle.archive_hash.specs.Owned.{entries_spelling};
+ghost use Rattle.archive_hash.specs.Calls.Owned.{SerializesEntries, SerializesMap};
 
 use crate::entries::serialize_entries_scan_each;
 use crate::map::{LOAD_FACTOR, OwnedHashMap};
@@ -34,9 +32,8 @@ fn serialize_rest_scan_each<
     requires room { S.failures serializer.old < 2 ^ 64 - 1 }
     requires state { HasState S.pos S.known serializer.old }
     requires takes { TakesGiven (TakesFirst deref_pair) (C.takes step.now) (record {}) pairs }
-    ensures { Serializes (entries_spelling
-        (λ k. input_hash (K.hash_input k)) K.Archived.shape V.Archived.shape K.spelling V.spelling)
-        S.Writer pairs.entry serializer.old serializer.new result }
+    ensures { SerializesEntries K.Hash K.Archived.shape V.Archived.shape K.spelling V.spelling S.Writer pairs.entry
+        serializer.old serializer.new result }
 {
     serialize_entries_scan_each::<G, K, V, ByArchive, S, _, C>(
         &ByArchive,
@@ -60,7 +57,8 @@ pub fn serialize_map_scan_each<
     requires room { S.failures serializer.old < 2 ^ 64 - 1 }
     requires state { HasState S.pos S.known serializer.old }
     requires takes { All (C.takes step.now (record {})) map.now.map.entries }
-    ensures { Serializes (seen_as (λ m. m.map.entries) (entries_spelling (λ k. input_hash (K.hash_input k)) K.Archived.shape V.Archived.shape K.spelling V.spelling)) S.Writer map.now serializer.old serializer.new result }
+    ensures { SerializesMap K.Hash K.Archived.shape V.Archived.shape K.spelling V.spelling S.Writer map.now
+        serializer.old serializer.new result }
 {
     serialize_rest_scan_each::<G, K, V, S, C>(map.map.len(), map.map.iter(), serializer, step)
 }
@@ -75,7 +73,8 @@ pub fn serialize_map_each<
     requires room { S.failures serializer.old < 2 ^ 64 - 1 }
     requires state { HasState S.pos S.known serializer.old }
     requires takes { All (C.takes step.now (record {})) map.now.map.entries }
-    ensures { Serializes (seen_as (λ m. m.map.entries) (entries_spelling (λ k. input_hash (K.hash_input k)) K.Archived.shape V.Archived.shape K.spelling V.spelling)) S.Writer map.now serializer.old serializer.new result }
+    ensures { SerializesMap K.Hash K.Archived.shape V.Archived.shape K.spelling V.spelling S.Writer map.now
+        serializer.old serializer.new result }
 {
     serialize_map_scan_each::<Group, K, V, S, C>(map, serializer, step)
 }

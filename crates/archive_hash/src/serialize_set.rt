@@ -2,14 +2,10 @@
 ghost use Rattle.std.specs.Prelude.{◌≡◌, ◌-◌, ◌^◌, ◌<◌, All, length};
 ghost use Rattle.std.specs.Iterator.{at_most};
 ghost use Rattle.std.specs.Map.Iter.{TakesFirst, deref_pair};
-ghost use Rattle.archive_shape_layout.specs.Shape.Shape.{tuple};
-ghost use Rattle.archive_shape_layout.specs.Shape.Shapes.{no_shapes};
-ghost use Rattle.archive_forms_laws.specs.Fields.{unit_spelling};
-ghost use Rattle.archive_forms_laws.specs.Forms.{seen_as};
-ghost use Rattle.archive_forms_laws.specs.Serializing.{HasState, Serializes};
-ghost use Rattle.archive_hash_probing.specs.Inputs.{input_hash};
+ghost use Rattle.archive_forms_laws.specs.Serializing.{HasState};
 ghost use Rattle.archive_hash.specs.Given.{TakesGiven};
-ghost use Rattle.archive_hash.specs.Owned.{entries_spelling, key_entries};
+ghost use Rattle.archive_hash.specs.Owned.{key_entries};
+ghost use Rattle.archive_hash.specs.Calls.Owned.{SerializesKeys, SerializesSet};
 
 use crate::OwnedHashSet;
 use crate::entries::serialize_entries_scan_each;
@@ -73,9 +69,8 @@ fn serialize_keys_scan_each<
     requires room { S.failures serializer.old < 2 ^ 64 - 1 }
     requires state { HasState S.pos S.known serializer.old }
     requires takes { TakesGiven (TakesFirst deref_pair) (C.takes step.now) (record {}) entries }
-    ensures { Serializes (entries_spelling (λ k. input_hash (K.hash_input k)) K.Archived.shape
-        (tuple no_shapes) K.spelling unit_spelling) S.Writer entries.entry
-        serializer.old serializer.new result }
+    ensures { SerializesKeys K.Hash K.Archived.shape K.spelling S.Writer entries.entry serializer.old
+        serializer.new result }
 {
     serialize_entries_scan_each::<G, K, (), ByArchive, S, _, C>(
         &ByArchive,
@@ -98,7 +93,8 @@ pub fn serialize_set_scan_each<
     requires room { S.failures serializer.old < 2 ^ 64 - 1 }
     requires state { HasState S.pos S.known serializer.old }
     requires takes { All (C.takes step.now (record {})) (key_entries set.now.set.keys) }
-    ensures { Serializes (seen_as (λ s. key_entries s.set.keys) (entries_spelling (λ k. input_hash (K.hash_input k)) K.Archived.shape (tuple no_shapes) K.spelling unit_spelling)) S.Writer set.now serializer.old serializer.new result }
+    ensures { SerializesSet K.Hash K.Archived.shape K.spelling S.Writer set.now serializer.old
+        serializer.new result }
 {
     let entries = KeyEntries {
         keys: set.set.iter(),
@@ -115,7 +111,8 @@ pub fn serialize_set_each<
     requires room { S.failures serializer.old < 2 ^ 64 - 1 }
     requires state { HasState S.pos S.known serializer.old }
     requires takes { All (C.takes step.now (record {})) (key_entries set.now.set.keys) }
-    ensures { Serializes (seen_as (λ s. key_entries s.set.keys) (entries_spelling (λ k. input_hash (K.hash_input k)) K.Archived.shape (tuple no_shapes) K.spelling unit_spelling)) S.Writer set.now serializer.old serializer.new result }
+    ensures { SerializesSet K.Hash K.Archived.shape K.spelling S.Writer set.now serializer.old
+        serializer.new result }
 {
     serialize_set_scan_each::<Group, K, S, C>(set, serializer, step)
 }

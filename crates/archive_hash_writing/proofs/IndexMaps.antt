@@ -1,5 +1,5 @@
 -- An index map is read as it is written: the law of index maps is that of each entry.
-use Rattle.std.proofs.Common.{◌≡◌, ◌∙◌, ℕ, zero, suc, ◌+◌, ◌-◌, ◌*◌, ◌<◌, ◌≤◌, ◌==◌, ◌^◌, nat_lt, Bool, true, false, cond, Option, Some, None, List, [], ◌∷◌, ◌++◌, length, map, refl, ap, ap₂, sym, subst, arith, inl, inr, add-zero, eqb-true, lt-ltb, length-append}
+use Rattle.std.proofs.Common.{◌≡◌, ◌∙◌, ℕ, zero, suc, ◌+◌, ◌-◌, ◌*◌, ◌<◌, ◌≤◌, ◌==◌, ◌^◌, nat_lt, Bool, true, false, cond, Option, Some, None, List, [], ◌∷◌, ◌++◌, length, map, refl, ap, sym, subst, arith, inl, inr, add-zero, eqb-true, lt-ltb, length-append}
 use Rattle.std.specs.Prelude.{⊤}
 use Rattle.std.specs.List.{All, range_with_len, cons_option}
 use Rattle.std.specs.Int.{w32, to_le_bytes}
@@ -7,13 +7,12 @@ use Rattle.std.proofs.lemmas.List.{length-map}
 use Rattle.std.proofs.lemmas.List.Elements.{All-nil, All-cons}
 use Rattle.std.proofs.lemmas.List.FromFn.{length-range_with_len}
 use Rattle.archive_shape_layout.specs.Bytes.{window, word_at, target_from, align_up}
-use Rattle.archive_shape_layout.specs.Shape.{Shape, size_of}
+use Rattle.archive_shape_layout.specs.Shape.{Shape}
 use Rattle.archive_shape_layout.specs.Shape.Shape.{table, index_map, vector}
 use Rattle.archive_shape_layout.specs.Shape.Pointee.{slice}
-use Rattle.archive_shape_layout.specs.Value.{Values, count_values}
 use Rattle.archive_shape_layout.specs.Value.Value.{natural, group}
 use Rattle.archive_shape_layout.specs.Value.Values.{more_values, no_values}
-use Rattle.archive_shape_layout.specs.Content.{Names, Part, made, choose, following, content_of, control_count, shape_content, table_parts, buckets_content}
+use Rattle.archive_shape_layout.specs.Content.{Names, made, choose, following, content_of, control_count, shape_content, table_parts, buckets_content}
 use Rattle.archive_shape_layout.specs.Content.Item.{item, place}
 use Rattle.archive_shape_layout.specs.Content.Part.{at, behind, buckets}
 use Rattle.archive_shape_layout.specs.Content.Label.{whole, second}
@@ -36,8 +35,8 @@ use Rattle.archive_forms_values.specs.Tuples.{tuple2}
 use Rattle.archive_forms_laws.specs.State.{State, Keys, visits_of, IsConsistent, AllFrom, AreKeyedBy}
 use Rattle.archive_forms_laws.specs.Spelling.{Spelling, state_after}
 use Rattle.archive_forms_laws.specs.Spells.{CanonicalPart, EachSpells, SpellsAt, Spells}
-use Rattle.archive_forms_laws.specs.Regions.{state_after_all, values, plain_values, all_suit, region_at, region_piece, region_fits}
-use Rattle.archive_forms_laws.specs.Links.{link_bytes, LinkFits}
+use Rattle.archive_forms_laws.specs.Regions.{state_after_all, values, plain_values, all_suit, region_at, region_piece}
+use Rattle.archive_forms_laws.specs.Links.{link_bytes}
 use Rattle.archive_forms_laws.specs.Pointers.{slice_spelling}
 use Rattle.archive_forms_laws.proofs.Gaps.{bytes_none, bytes_append}
 use Rattle.archive_forms_laws.proofs.Leaves.{leaf_spells}
@@ -46,14 +45,14 @@ use Rattle.archive_forms_laws.proofs.Pointers.{offset_stands, slice_spells_at}
 use Rattle.archive_forms_laws.proofs.Regions.{state_after_all_keyed, state_after_all_pos, region_end, region_up, slice_canonical, no_parts, more_parts}
 use Rattle.archive_forms_laws.proofs.States.{consistent_further, from_earlier}
 use Rattle.archive_forms_laws.proofs.Views.{each_spells}
-use Rattle.archive_hash_writing.specs.Fitted.{capacity_of, places_of, table_of, by_place, controls_of}
+use Rattle.archive_hash_writing.specs.Fitted.{capacity_of, places_of, table_of, controls_of}
 use Rattle.archive_forms_laws.specs.Sample.{number_shape, number_spelling}
-use Rattle.archive_hash_writing.specs.Tables.{controls_at, region_from, filled_piece, filled_fits}
+use Rattle.archive_hash_writing.specs.Tables.{controls_at}
 use Rattle.archive_hash_writing.proofs.SpellingFitting.{length-table, length-by_place, above, controls_of_table}
-use Rattle.archive_hash_writing.proofs.SpellingFilled.{AreControlsOf, FilledStands, filled_stands, filled_canonical, controls_read, legal_buckets}
+use Rattle.archive_hash_writing.proofs.SpellingFilled.{AreControlsOf, filled_stands, filled_canonical, controls_read, legal_buckets}
 use Rattle.archive_hash_writing.proofs.SpellingTables.{count_of, hashed_spells_of, length-own, own_read}
 use Rattle.archive_hash_writing.specs.IndexMaps.{numbers, numbers_spelling, state_behind, map_spelling, index_spelling, IsKeptBy}
-use Rattle.archive_hash_writing.proofs.IndexPlaces.{IsBelow, AreBelow, numbers_as_places}
+use Rattle.archive_hash_writing.proofs.IndexPlaces.{AreBelow, numbers_as_places}
 
 -- ---- numbers
 

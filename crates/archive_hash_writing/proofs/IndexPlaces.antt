@@ -1,6 +1,5 @@
 -- A table of numbers below a limit is one of the numbers of entries: what is written as the one is read as the other.
-use Rattle.std.proofs.Common.{◌≡◌, ℕ, suc, ◌+◌, ◌-◌, ◌*◌, ◌<◌, ◌≤◌, ◌==◌, ◌&&◌, nat_lt, nat_le, Bool, true, false, cond, List, [], ◌∷◌, ◌++◌, ◌⊎◌, length, take, slice_index, Some, refl, sym, ap, ap₂, subst, ◌∙◌, arith, inl, inr, ⊎_elim, lt-ltb, add-zero, le_refl}
-use Rattle.std.specs.Int.{w32}
+use Rattle.std.proofs.Common.{◌≡◌, ℕ, suc, ◌+◌, ◌-◌, ◌*◌, ◌<◌, nat_lt, Bool, true, false, cond, List, [], ◌∷◌, ◌++◌, take, Some, refl, sym, ap, subst, ◌∙◌, arith, inl, inr, ⊎_elim, lt-ltb, add-zero}
 use Rattle.std.specs.Prelude.{⊤}
 use Rattle.archive_shape_layout.specs.Bytes.{window, word_at, align_up}
 use Rattle.archive_shape_layout.specs.Value.{Value, Values}
@@ -16,7 +15,7 @@ use Rattle.archive_shape_layout.specs.Holds.Holds.{holds_plain, holds_claimed, h
 use Rattle.archive_shape_layout.specs.Holds.HoldAll.{holds_none, holds_more}
 use Rattle.archive_shape_layout.proofs.Unique.{by_plain, by_claimed}
 use Rattle.archive_shape_canonical.specs.Settled.{Fit}
-use Rattle.archive_shape_canonical.specs.Clean.{IsClean, IsIn, InParts, PaddingIsZero, IsFilled}
+use Rattle.archive_shape_canonical.specs.Clean.{IsClean, InParts, PaddingIsZero, IsFilled}
 use Rattle.archive_shape_canonical.specs.Canonical.{IsCanonical, AreCanonical, end_of, end_of_all}
 use Rattle.archive_shape_canonical.proofs.Cleanness.{clean_by}
 use Rattle.archive_shape_layout.proofs.Windows.{word_within}

@@ -17,8 +17,8 @@ use Rattle.archive_forms_laws.specs.Spelling.{Spelling, state_after}
 use Rattle.archive_forms_laws.specs.Forms.{seen_as, kept_as}
 use Rattle.archive_forms_laws.specs.Links.{link_bytes, LinkFits, LinkRefused}
 use Rattle.archive_forms_laws.specs.Regions.{state_after_all, values, plain_values, all_suit, pieces, owns, pieces_fit, pieces_refused, owns_fit, owns_refused, region_at, region_piece, region_fits, region_refused}
-use Rattle.archive_forms_laws.proofs.Agreeing.{Said, said}
-use Rattle.archive_hash_writing.specs.Fitted.{capacity_of, by_place, controls_of}
+use Rattle.archive_forms_laws.proofs.Agreeing.{said}
+use Rattle.archive_hash_writing.specs.Fitted.{by_place, controls_of}
 use Rattle.archive_hash_writing.specs.IndexMaps.{numbers_spelling, map_spelling}
 
 module _ {A B R Q : Type 0} (s : Shape) (view : B → A) (make : R → Q) (get : Q → R) (back : (r : R) → get (make r) ≡ r) (w : Spelling A R) where

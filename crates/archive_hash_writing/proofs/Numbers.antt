@@ -1,13 +1,9 @@
 -- Tables of numbers are written as their one archive, where a fit fills them as they are written, and some fit does.
 use Rattle.std.proofs.Common.{ℕ, List, [], ◌∷◌, None, refl, map}
-use Rattle.std.specs.Int.{w32, to_le_bytes}
-use Rattle.archive_shape_layout.specs.Value.Value.{natural}
 use Rattle.archive_shape_canonical.specs.Settled.{Fit}
-use Rattle.archive_forms_laws.specs.State.{Keys, AreOneToOne}
-use Rattle.archive_forms_laws.specs.Spells.{Spells}
+use Rattle.archive_forms_laws.specs.State.{Keys}
 use Rattle.archive_forms_laws.specs.Regions.{all_suit}
 use Rattle.archive_forms_laws.specs.SpellingLaws.{KnowsAll}
-use Rattle.archive_forms_laws.proofs.Leaves.{leaf_spells}
 use Rattle.archive_forms_laws.proofs.Written.{is_written}
 use Rattle.archive_hash_writing.specs.Fitted.{by_place, capacity_of, controls_of}
 use Rattle.archive_hash_writing.specs.Sample.{number_shape, sample_shape}

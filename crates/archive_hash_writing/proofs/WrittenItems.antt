@@ -4,7 +4,7 @@ use Rattle.std.specs.Prelude.{nat_lt}
 use Rattle.std.specs.List.{All, AllZip, range_with_len, cons_option}
 use Rattle.std.proofs.lemmas.Bool.{cases_eq}
 use Rattle.std.proofs.lemmas.List.{length-map}
-use Rattle.archive_shape_layout.specs.Bytes.{window, word_at, target_from}
+use Rattle.archive_shape_layout.specs.Bytes.{word_at, target_from}
 use Rattle.archive_shape_layout.specs.Shape.{Shape}
 use Rattle.archive_shape_layout.specs.Shape.Shape.{table}
 use Rattle.archive_shape_layout.specs.Value.{Value, Values, count_values}
@@ -29,14 +29,14 @@ use Rattle.archive_forms_laws.specs.Spelling.{Spelling, state_after}
 use Rattle.archive_forms_laws.specs.Regions.{values, plain_values}
 use Rattle.archive_forms_values.proofs.Rooted.{root_held}
 use Rattle.archive_forms_values.proofs.Targets.{first_word}
-use Rattle.archive_hash_maps.specs.Tables.{Buckets, no_buckets, full_places, item_position, item_positions, IsTableAt, IsTableOf, AreItemsAt}
+use Rattle.archive_hash_maps.specs.Tables.{Buckets, no_buckets, full_places, item_position, item_positions, IsTableAt, AreItemsAt}
 use Rattle.archive_hash_maps.specs.Tables.IsTableAt.{has_none, has_buckets}
 use Rattle.archive_hash_maps.proofs.Read.{table_is_read}
-use Rattle.archive_hash_writing.specs.Fitted.{capacity_of, places_of, table_of, by_place, controls_of}
+use Rattle.archive_hash_writing.specs.Fitted.{capacity_of, places_of, by_place, controls_of}
 use Rattle.archive_hash_writing.specs.Tables.{IsFilledBy}
 use Rattle.archive_hash_writing.proofs.Rooted.{made_one, root_settled}
 use Rattle.archive_hash_writing.proofs.SpellingPresent.{item_own}
-use Rattle.archive_hash_writing.proofs.SpellingFitting.{above, length-by_place, length-places, places_below, are_apart}
+use Rattle.archive_hash_writing.proofs.SpellingFitting.{length-by_place, length-places, places_below, are_apart}
 use Rattle.archive_hash_writing.proofs.SpellingTables.{filled_content, count_of}
 use Rattle.archive_hash_writing.proofs.Tagged.{IsTagOf, item_tagged}
 

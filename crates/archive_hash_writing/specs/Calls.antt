@@ -1,6 +1,6 @@
 -- What each function requires and ensures, where that is longer than a line. `old` and `new` are the serializer, or the
 -- writer, as a call begins and ends; `table` is the item at each place of a table, if there is one.
-use denote.Ref.{Bor, MutBor}
+use denote.Bor.{Bor}
 use denote.Param.Members.{Shared}
 use Rattle.std.specs.Prelude.{◌≡◌, ℕ, ◌+◌, ◌*◌, ◌^◌, ◌<◌, [], List, Vec, length, map, All, Option, Result, MatchOption, MatchResult}
 use Rattle.std.specs.Fn.{FnReturnsAt}
@@ -11,11 +11,11 @@ use Rattle.archive_shape_layout.specs.Writing.{WriterMembers}
 use Rattle.archive_shape_layout.specs.declared.error.Error.{Error}
 use Rattle.archive_shape_layout.specs.declared.error.Error.TheVariants.{OutOfMemory}
 use Rattle.archive_shape_canonical.specs.FirstFit.{fitted_from, placed, present, written_controls}
-use Rattle.archive_forms_laws.specs.Regions.{state_after_all, pieces, resolvers, pieces_fit, pieces_refused}
-use Rattle.archive_forms_laws.specs.Serializing.{IsAt, LaysData}
+use Rattle.archive_forms_laws.specs.Regions.{resolvers}
 use Rattle.archive_forms_laws.specs.Spelling.{Spelling}
 use Rattle.archive_forms_laws.specs.State.{State}
-use Rattle.archive_forms_writing.specs.Steps.{IsElement, StepTakes}
+use Rattle.archive_forms_writing.specs.Calls.Items.{SerializesAll}
+use Rattle.archive_forms_writing.specs.Steps.{IsElement}
 use Rattle.archive_hash_maps.specs.declared.map.resolving.HashTableResolver.{HashTableResolver}
 use Rattle.archive_hash_writing.specs.Claimed.{AreHashesOf, WritesTable}
 use Rattle.archive_hash_writing.specs.Laying.{LaysBuckets, LaysRegion}
@@ -58,12 +58,7 @@ FindsControls s from places controls found =
 module _ {A R W : Type 0} (w : Spelling A R) (members : WriterMembers W) (table : List (Option (Bor A))) where
   -- their data is written by ascending place, and the result is their resolvers
   abbrev pub LaysPresent : W → W → Result (Vec R Global) Error → Type 0
-  LaysPresent old new result =
-      (st : State) → IsAt members.pos members.known old st
-      → let xs = present (map standing table) in
-      LaysData members old new (pieces w xs st)
-      (λ all. (all.items ≡ resolvers w xs st) × pieces_fit w xs st × IsAt members.pos members.known new (state_after_all w xs st))
-      (pieces_refused w xs st) result
+  LaysPresent old new result = SerializesAll w members (present (map standing table)) old new result
 
 module _ {A R : Type 0} (w : Spelling A R) (table : List (Option (Bor A))) (kept : List R) where
   -- these are their resolvers, if their data was written from a state on
@@ -92,10 +87,6 @@ module _ {I J T : Type 0} (into : I → J → Type 0) (gives : J → Option T �
   -- these are the items
   abbrev pub AreItems : List T → Type 0
   AreItems xs = (it : J) × into iter it × Drains gives it xs
-
-  -- a step may be called for each of them
-  abbrev pub StepTakesItems : {F W Q : Type 0} → Shared F (Bor T × (MutBor W × Unit {0})) (Result Q Error × (MutBor W × Unit {0})) → WriterMembers W → F → Type 0
-  StepTakesItems call members step = (it : J) (xs : List T) → into iter it → Drains gives it xs → StepTakes call members step xs
 
   -- a hash may be computed of each of them
   abbrev pub MayHashItems : (Bor T → Type 0) → Type 0

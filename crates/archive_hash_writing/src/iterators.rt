@@ -2,8 +2,9 @@
 ghost use Rattle.std.specs.Prelude.{◌≡◌, ◌-◌, ◌^◌, ◌<◌};
 ghost use Rattle.std.specs.Iterator.{IsFiniteIterable};
 ghost use Rattle.archive_forms_laws.specs.Serializing.{HasState, SerializesBy};
+ghost use Rattle.archive_forms_writing.specs.Calls.Iterating.{StepTakesItems};
 ghost use Rattle.archive_forms_writing.specs.Steps.{StepWrites};
-ghost use Rattle.archive_hash_writing.specs.Calls.{StepTakesItems, MayHashItems, WritesItems};
+ghost use Rattle.archive_hash_writing.specs.Calls.{MayHashItems, WritesItems};
 
 use crate::hashes::hash_items;
 use crate::tables::serialize_hashed;
@@ -46,7 +47,7 @@ pub fn serialize_from_iter_scan_with_each<
     requires room { S.failures serializer.old < 2 ^ 64 - 1 }
     requires state { HasState S.pos S.known serializer.old }
     requires ends { IsFiniteIterable I.into_iter_gives I.IntoIter.can_next I.IntoIter.remaining iter }
-    requires takes { StepTakesItems I.into_iter_gives I.IntoIter.next_gives iter F.Fn S.Writer step }
+    requires takes { StepTakesItems I.into_iter_gives I.IntoIter.next_gives F.Fn S.Writer step iter }
     requires writes { StepWrites F.Fn (λ q. q.0) (A.spelling with.now) S.Writer step }
     requires hashes { MayHashItems I.into_iter_gives I.IntoIter.next_gives iter (H.pre hash) }
     ensures { WritesItems I.into_iter_gives I.IntoIter.next_gives iter load_factor A.Archived.shape
@@ -95,7 +96,7 @@ pub fn serialize_from_iter_scan_each<
     requires room { S.failures serializer.old < 2 ^ 64 - 1 }
     requires state { HasState S.pos S.known serializer.old }
     requires ends { IsFiniteIterable I.into_iter_gives I.IntoIter.can_next I.IntoIter.remaining iter }
-    requires takes { StepTakesItems I.into_iter_gives I.IntoIter.next_gives iter F.Fn S.Writer step }
+    requires takes { StepTakesItems I.into_iter_gives I.IntoIter.next_gives F.Fn S.Writer step iter }
     requires writes { StepWrites F.Fn (λ q. q.0) T.spelling S.Writer step }
     requires hashes { MayHashItems I.into_iter_gives I.IntoIter.next_gives iter (H.pre hash) }
     ensures { WritesItems I.into_iter_gives I.IntoIter.next_gives iter load_factor T.Archived.shape T.spelling

@@ -1,4 +1,5 @@
 pub mod Answering
+pub mod Calls
 pub mod Lookups
 pub mod Maps
 pub mod Sets

@@ -1,13 +1,9 @@
 //! The check of index maps, by their own bytes, their table and their entries.
-ghost use Rattle.std.specs.Prelude.{◌≡◌, ℕ, ◌+◌, ◌≤◌, length};
-ghost use Rattle.archive_shape_layout.specs.Shape.{Shape};
-ghost use Rattle.archive_shape_layout.specs.Shape.Shape.{index_map};
-ghost use Rattle.archive_shape_layout.specs.Content.{Names};
-ghost use Rattle.archive_shape_layout.specs.Content.Part.{at};
+ghost use Rattle.std.specs.Prelude.{ℕ, ◌+◌, ◌≤◌, length};
 ghost use Rattle.archive_shape.specs.Kept.{IsWithin};
-ghost use Rattle.archive_shape.specs.Checks.{Checks, Moves};
+ghost use Rattle.archive_shape.specs.Checks.{Moves};
 ghost use Rattle.archive_shape.specs.Steps.{StepTakes, StepChecks};
-ghost use Rattle.archive_forms_values.specs.Tuples.{tuple2};
+ghost use Rattle.archive_index.specs.Calls.Checking.{ChecksEntries};
 
 use archive_forms_values::{check_elements_behind, read_target};
 use archive_hash_maps::checking::{check_head, check_place_buckets};
@@ -34,8 +30,7 @@ pub fn check_index_map_each<
     requires takes { StepTakes F.Fn C.kept bytes.now T.shape step (C.kept context.old) T.SIZE }
     requires checks { StepChecks F.Fn C.kept bytes.now T.shape step T.knows }
     ensures moves { Moves (C.kept context.old) result (C.kept context.new) }
-    ensures exact { (names : Names) (key value : Shape) → T.knows names → T.shape ≡ tuple2 key value
-        → Checks names bytes.now (at pos (index_map key value)) (C.kept context.old) result (C.kept context.new) }
+    ensures exact { ChecksEntries C.kept T.knows T.shape bytes.now pos context.old result context.new }
 {
     let _len = bytes.len();
     let Some(head) = check_head::<ArchivedU32>(bytes, pos)? else {

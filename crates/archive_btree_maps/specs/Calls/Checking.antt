@@ -1,10 +1,10 @@
 -- What the checks of nodes and maps ensure. `kept` is what a context keeps.
 use denote.Ref.{MutBor}
 use denote.Param.Members.{Shared}
-use Rattle.std.specs.Prelude.{◌≡◌, ◌≢◌, ℕ, ◌+◌, ◌-◌, ◌^◌, ◌<◌, ◌≤◌, List, length, Result, MatchResult}
+use Rattle.std.specs.Prelude.{◌≡◌, ◌≢◌, ℕ, ◌+◌, ◌≤◌, List, Result, MatchResult}
 use Rattle.archive_shape_layout.specs.Shape.{Shape}
 use Rattle.archive_shape_layout.specs.Shape.Shape.{tree}
-use Rattle.archive_shape_layout.specs.Content.{Names, entries, children, links_offset}
+use Rattle.archive_shape_layout.specs.Content.{Names, entries, children}
 use Rattle.archive_shape_layout.specs.Content.Part.{at, node, child, entry}
 use Rattle.archive_shape_layout.specs.declared.error.Error.{Error}
 use Rattle.archive_shape_layout.specs.declared.error.Error.TheVariants.{OutOfMemory}
@@ -15,20 +15,15 @@ use Rattle.archive_shape.specs.Steps.{StepTakes}
 use Rattle.archive_shape.specs.declared.checking.context.PushedRange.{PushedRange}
 use Rattle.archive_shape.specs.declared.references.refs.Ref.{Ref}
 use Rattle.archive_shape.specs.declared.types.portable.Portable.{Ghosts}
-use Rattle.archive_btree_layout.specs.Reading.{Place, HasNode}
-use Rattle.archive_btree_layout.specs.Tree.{Tree}
 use Rattle.archive_forms_values.specs.Claims.{as_usize, IsClaimed}
 use Rattle.archive_btree_maps.specs.Counts.{Counts, CountsAll}
-use Rattle.archive_btree_maps.specs.Layout.{IsLayout}
-use Rattle.archive_btree_maps.specs.declared.nodes.layout.NodeLayout.{NodeLayout}
 
--- a step may be called wherever a value of the shape fits, in each range that is narrower than that of a context by at
--- least so many bytes
+-- a step may be called wherever a value of the shape fits, in each range that is `claimed` bytes narrower than a context's
 abbrev pub TakesIn : {F C : Type 0} (call : Shared F (MutBor C × (ℕ × Unit {0})) (Result (Unit {0}) Error × (MutBor C × Unit {0})))
     (kept : C → Kept) (bytes : List ℕ) (shape : Shape) (step : F) (context : C) (claimed : ℕ) → Type 0
 TakesIn call kept bytes shape step context claimed = StepTakes call kept bytes shape step (kept context) claimed
 
--- the region of a node at a position is claimed, or refused for the first reason
+-- the bytes of a node at a position are claimed, or refused for the first reason
 abbrev pub ClaimsNode : {C : Type 0} (kept : C → Kept) (pos size align : ℕ) (old : C) (result : Result PushedRange Error) (new : C) → Type 0
 ClaimsNode kept pos size align old result new =
     (n : ℕ) → size ≡ as_usize n
@@ -36,16 +31,8 @@ ClaimsNode kept pos size align old result new =
     (λ r. IsClaimed (kept old) (record { start = pos; size = n; align = align }) r (kept new))
     (λ e. e ≢ OutOfMemory → FirstUnanswered (range_of (kept old)) e (claim (record { start = pos; size = n; align = align })))
 
--- the layout of nodes is exact where no offset is too large
-abbrev pub IsExact : (most : ℕ) (k v : Shape) (layout : NodeLayout) → Type 0
-IsExact most k v layout = 0 < most → links_offset most k v < 2 ^ 64 - 1 → IsLayout most k v layout
+-- ---- checks of parts, under all names that the types of keys and values know
 
--- the layout of nodes is exact where some bytes have a node
-abbrev pub IsExactInBuffers : (most : ℕ) (k v : Shape) (layout : NodeLayout) → Type 0
-IsExactInBuffers most k v layout =
-    (bytes : List ℕ) (level pos : ℕ) (t : Tree Place) → 0 < most → length bytes < 2 ^ 64 → HasNode bytes most k v level pos t → IsLayout most k v layout
-
--- under all names that the types of keys and values know
 module _ {C K V : Type 0} (kept : C → Kept) (k : Ghosts K) (v : Ghosts V) (bytes : List ℕ) where
   -- the entry whose key and value lie at two positions is checked
   abbrev pub ChecksEntry : (key value : ℕ) (old : C) (result : Result (Unit {0}) Error) (new : C) → Type 0
@@ -68,25 +55,26 @@ abbrev pub VerifiesMap : {C K V M : Type 0} (kept : C → Kept) (most : ℕ) (k 
     (old : C) (result : Result (Unit {0}) Error) (new : C) → Type 0
 VerifiesMap kept most k v this = ChecksMap kept most k v this.bytes.now this.pos
 
--- parts of a tree with at most `most` entries in a node are checked, and their items are counted
+-- ---- checks of parts of a tree with at most `most` entries in a node, which count the items
+
 module _ {C K V : Type 0} (kept : C → Kept) (most : ℕ) (k : Ghosts K) (v : Ghosts V) (bytes : List ℕ) where
-  -- the leaf at a position, on each level
+  -- the leaf at a position is checked, on each level
   abbrev pub CountsLeaf : (pos : ℕ) (old : C) (result : Result ℕ Error) (new : C) → Type 0
   CountsLeaf pos old result new =
       (names : Names) (level : ℕ) → level ≤ 32 → k.knows names → v.knows names
       → Counts names bytes (node level most k.shape v.shape pos) (kept old) result (kept new)
 
-  -- the node at a position
+  -- the node on a level and at a position is checked
   abbrev pub CountsNode : (level pos : ℕ) (old : C) (result : Result ℕ Error) (new : C) → Type 0
   CountsNode level pos old result new =
       (names : Names) → k.knows names → v.knows names → Counts names bytes (node level most k.shape v.shape pos) (kept old) result (kept new)
 
-  -- the child that the pointer at a position leads to
+  -- the child on a level that the pointer at a position leads to is checked, if there is one
   abbrev pub CountsChild : (level pos : ℕ) (old : C) (result : Result ℕ Error) (new : C) → Type 0
   CountsChild level pos old result new =
       (names : Names) → k.knows names → v.knows names → Counts names bytes (child level most k.shape v.shape pos) (kept old) result (kept new)
 
-  -- the children that the pointers of an inner node lead to, the first pointer at a position
+  -- the children of an inner node are checked in order, whose pointers lie side by side from a position on
   abbrev pub CountsChildren : (level pos : ℕ) (old : C) (result : Result ℕ Error) (new : C) → Type 0
   CountsChildren level pos old result new =
       (names : Names) → k.knows names → v.knows names

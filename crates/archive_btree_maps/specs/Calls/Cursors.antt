@@ -25,7 +25,7 @@ CanLend k v bytes e = HasValue k.shape k.knows (take e.value bytes) e.key × (e.
 abbrev pub IsLoan : {K V : Type 0} (k : Ghosts K) (v : Ghosts V) (loan : Ref K × OwnSeal V) → Type 0
 IsLoan k v loan = HasValue k.shape k.knows loan.0.bytes.now loan.0.pos × (length loan.1.own.now ≡ v.SIZE)
 
--- ---- cursors of one kind: `left` says which entries of a map one has left, and `bytes_of` the bytes that it has
+-- ---- cursors of any kind: `left` says which entries of a map one has left, and `bytes_of` gives its bytes
 
 module _ {K V C : Type 0} (k : Ghosts K) (v : Ghosts V)
     (left : C → (most : ℕ) → BegunMap most k.shape v.shape k.knows v.knows → List Place → Type 0) (bytes_of : C → List ℕ) where
@@ -72,16 +72,19 @@ module _ {K V C : Type 0} (k : Ghosts K) (v : Ghosts V)
       (λ rest. left new most m rest × IsWritten m (bytes_of new)) es result)
 
 module _ {K V : Type 0} (k : Ghosts K) (v : Ghosts V) where
-  -- ---- walks over these bytes
+  -- ---- walks over bytes
 
+  -- a walk is over some map, and has some of its entries left
   abbrev pub IsWalkOver : (bytes : List ℕ) (walk : EntryWalk) → Type 0
   IsWalkOver bytes = IsOver k v (λ walk most m. GoesOn m walk) (λ walk. bytes)
 
+  -- the next entry that a walk has left, if there is one, is passed
   abbrev pub WalkPasses : (bytes : List ℕ) (old : EntryWalk) (result : Option EntryAt) (new : EntryWalk) → Type 0
   WalkPasses bytes = Passes k v (λ walk most m. GoesOn m walk) (λ walk. bytes)
 
   -- ---- cursors over all entries
 
+  -- a cursor is over some map, and has some of its entries left
   abbrev pub IsIterOver : (cursor : IterSeal K V) → Type 0
   IsIterOver = IsOver k v (λ c most m. HasEntries m c) (λ c. c.bytes.now)
 
@@ -90,15 +93,19 @@ module _ {K V : Type 0} (k : Ghosts K) (v : Ghosts V) where
   IterBegins walk len cursor =
       (most : ℕ) (m : BegunMap most k.shape v.shape k.knows v.knows) (es : List Place) → GoesOn m walk es → len ≡ length es → HasEntries m cursor es
 
+  -- the next entry that a cursor has left, if there is one, is passed
   abbrev pub IterPasses : (old : IterSeal K V) (result : Option EntryAt) (new : IterSeal K V) → Type 0
   IterPasses = Passes k v (λ c most m. HasEntries m c) (λ c. c.bytes.now)
 
+  -- the next entry that a cursor has left, if there is one, is lent
   abbrev pub IterLends : (old : IterSeal K V) (result : Option (Ref K × OwnSeal V)) → Type 0
   IterLends = Lends k v (λ c most m. HasEntries m c) (λ c. c.bytes.now)
 
+  -- a closure may be called with the next entry that a cursor has left
   abbrev pub IterMayVisit : {F : Type 0} (pre : F → Ref K → MutBor (OwnSeal V) → Type 0) (cursor : IterSeal K V) (f : F) → Type 0
   IterMayVisit pre = MayVisit k v (λ c most m. HasEntries m c) (λ c. c.bytes.now) pre
 
+  -- a call is lent the next entry that a cursor has left, if there is one, and the entry is passed
   abbrev pub IterVisits : {F R : Type 0} (step : F → Ref K → MutBor (OwnSeal V) → R → MutBor (OwnSeal V) → F → Type 0) (old : IterSeal K V) (f : F)
       (result : Option R) (new : IterSeal K V) (g : F) → Type 0
   IterVisits step = Visits k v (λ c most m. HasEntries m c) (λ c. c.bytes.now) step
@@ -110,6 +117,7 @@ module _ {K V : Type 0} (k : Ghosts K) (v : Ghosts V) where
 
   -- ---- cursors over the entries between two bounds
 
+  -- a cursor is over some map, and has some of its entries left
   abbrev pub IsRangeOver : (cursor : RangeSeal K V) → Type 0
   IsRangeOver = IsOver k v (λ c most m. HasRange m c) (λ c. c.bytes.now)
 
@@ -118,15 +126,19 @@ module _ {K V : Type 0} (k : Ghosts K) (v : Ghosts V) where
   RangeBegins walk cursor =
       (most : ℕ) (m : BegunMap most k.shape v.shape k.knows v.knows) (es : List Place) → GoesOn m walk es → HasRange m cursor es
 
+  -- the next entry that a cursor has left, if there is one, is passed
   abbrev pub RangePasses : (old : RangeSeal K V) (result : Option EntryAt) (new : RangeSeal K V) → Type 0
   RangePasses = Passes k v (λ c most m. HasRange m c) (λ c. c.bytes.now)
 
+  -- the next entry that a cursor has left, if there is one, is lent
   abbrev pub RangeLends : (old : RangeSeal K V) (result : Option (Ref K × OwnSeal V)) → Type 0
   RangeLends = Lends k v (λ c most m. HasRange m c) (λ c. c.bytes.now)
 
+  -- a closure may be called with the next entry that a cursor has left
   abbrev pub RangeMayVisit : {F : Type 0} (pre : F → Ref K → MutBor (OwnSeal V) → Type 0) (cursor : RangeSeal K V) (f : F) → Type 0
   RangeMayVisit pre = MayVisit k v (λ c most m. HasRange m c) (λ c. c.bytes.now) pre
 
+  -- a call is lent the next entry that a cursor has left, if there is one, and the entry is passed
   abbrev pub RangeVisits : {F R : Type 0} (step : F → Ref K → MutBor (OwnSeal V) → R → MutBor (OwnSeal V) → F → Type 0) (old : RangeSeal K V) (f : F)
       (result : Option R) (new : RangeSeal K V) (g : F) → Type 0
   RangeVisits step = Visits k v (λ c most m. HasRange m c) (λ c. c.bytes.now) step
@@ -137,6 +149,7 @@ module _ {K V : Type 0} (k : Ghosts K) (v : Ghosts V) where
   abbrev pub OfValuesLeft : (cursor : ValuesSeal K V) (P : (most : ℕ) → BegunMap most k.shape v.shape k.knows v.knows → List Place → Type 0) → Type 0
   OfValuesLeft = OfLeft k v (λ c most m. HasValues m c) (λ c. c.entries.bytes.now)
 
+  -- a cursor is over some map, and has some of its values left
   abbrev pub AreValuesOver : (cursor : ValuesSeal K V) → Type 0
   AreValuesOver = IsOver k v (λ c most m. HasValues m c) (λ c. c.entries.bytes.now)
 

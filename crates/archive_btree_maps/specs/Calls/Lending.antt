@@ -38,7 +38,8 @@ abbrev pub CallsOrderLent : {F Q K : Type 0} (post : F → Q → Ref K → Order
     (places : List Place) → Type 0
 CallsOrderLent post f query bytes order places = (lent : Bor (List ℕ)) → lent.now ≡ bytes → CallsOrder post f query lent order places
 
--- `equal` says which entries are equal to a query, and `orders` which order is that of the comparisons with it
+-- ---- look-ups of any kind: `equal` says which entries are equal, and `orders` which order is that of the comparisons
+
 module _ {K V M : Type 0} (most : ℕ) (k : Shape) (v : Ghosts V) (this : Seal M) where
   -- an entry is lent that is equal
   abbrev pub LendsEqual : (equal : Place → Type 0) (result : Option (Ref K × OwnSeal V)) → Type 0
@@ -77,7 +78,8 @@ AnswersSeal most k v key_of key_order this query result =
     (entry ≡ None)
     (λ r. (e : Place) × (entry ≡ Some e) × (r.bytes.ghost_name ≡ this.bytes.ghost_name) × (r.bytes.now ≡ this.bytes.now) × (r.pos ≡ e.value)))
 
--- look-ups of a query by the comparison that keys have with it
+-- ---- look-ups of a query by the comparison that keys have with it
+
 module _ {Q K V M : Type 0} (most : ℕ) (k : Shape) (v : Ghosts V) (key_of : List ℕ → ℕ → Q → Type 0) (key_order : Q → Q → Ordering) (this : Seal M) (query : Q) where
   -- an entry is lent whose key is equal to the query
   abbrev pub FindsLoan : (result : Option (Ref K × OwnSeal V)) → Type 0
@@ -87,17 +89,18 @@ module _ {Q K V M : Type 0} (most : ℕ) (k : Shape) (v : Ghosts V) (key_of : Li
   abbrev pub AnswersLoan : (result : Option (Ref K × OwnSeal V)) → Type 0
   AnswersLoan = LendsOrdered most k v this (QueryOrders key_of key_order this.bytes.now query)
 
-  -- the entry of a visit is so found
+  -- a call is lent an entry whose key is equal to the query, or nothing changes
   abbrev pub FindsVisit : {F R : Type 0} (step : F → Ref K → MutBor (OwnSeal V) → R → MutBor (OwnSeal V) → F → Type 0) (f : F) (result : Option R) (g : F)
       (out : List ℕ) → Type 0
   FindsVisit step = VisitsEqual most k v this step (IsEqualKey key_of key_order this.bytes.now query)
 
-  -- the entry of a visit is that which the descent ends at
+  -- a call is lent the entry that the descent ends at, or nothing changes
   abbrev pub AnswersVisit : {F R : Type 0} (step : F → Ref K → MutBor (OwnSeal V) → R → MutBor (OwnSeal V) → F → Type 0) (f : F) (result : Option R) (g : F)
       (out : List ℕ) → Type 0
   AnswersVisit step = VisitsOrdered most k v this step (QueryOrders key_of key_order this.bytes.now query)
 
--- look-ups of a query by calls of a closure
+-- ---- look-ups of a query by calls of a closure
+
 module _ {F Q K V M : Type 0} (most : ℕ) (k : Shape) (v : Ghosts V) (post : F → Q → Ref K → Ordering → Type 0) (compare : F) (this : Seal M) (query : Q) where
   -- an entry is lent whose key a call says to be equal
   abbrev pub FindsLoanBy : (result : Option (Ref K × OwnSeal V)) → Type 0
@@ -107,12 +110,12 @@ module _ {F Q K V M : Type 0} (most : ℕ) (k : Shape) (v : Ghosts V) (post : F 
   abbrev pub AnswersLoanBy : (result : Option (Ref K × OwnSeal V)) → Type 0
   AnswersLoanBy = LendsOrdered most k v this (CallsOrderLent post compare query this.bytes.now)
 
-  -- the entry of a visit is so found
+  -- a call is lent an entry whose key a call of the closure says to be equal, or nothing changes
   abbrev pub FindsVisitBy : {G R : Type 0} (step : G → Ref K → MutBor (OwnSeal V) → R → MutBor (OwnSeal V) → G → Type 0) (f : G) (result : Option R) (g : G)
       (out : List ℕ) → Type 0
   FindsVisitBy step = VisitsEqual most k v this step (IsCalledEqual post compare query this.bytes.now)
 
-  -- the entry of a visit is that which the descent ends at
+  -- a call is lent the entry that the descent ends at, or nothing changes
   abbrev pub AnswersVisitBy : {G R : Type 0} (step : G → Ref K → MutBor (OwnSeal V) → R → MutBor (OwnSeal V) → G → Type 0) (f : G) (result : Option R) (g : G)
       (out : List ℕ) → Type 0
   AnswersVisitBy step = VisitsOrdered most k v this step (CallsOrderLent post compare query this.bytes.now)

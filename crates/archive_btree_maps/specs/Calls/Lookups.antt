@@ -21,7 +21,8 @@ abbrev pub OfDescent : (most : ℕ) (k v : Shape) (bytes : List ℕ) (pos : ℕ)
 OfDescent most k v bytes pos orders P =
     (t : Tree Place) (order : Place → Ordering) → IsMapAt bytes most k v pos t → orders order (items t) → P (descend order t)
 
--- look-ups of a query by the comparison that keys have with it
+-- ---- look-ups of a query by the comparison that keys have with it
+
 module _ {M Q : Type 0} (most : ℕ) (k v : Shape) (key_of : List ℕ → ℕ → Q → Type 0) (key_order : Q → Q → Ordering) (this : Ref M) (query : Q) where
   -- what is found, if anything is, is what an entry has whose key is equal to the query
   abbrev pub FindsOf : {A : Type 0} (of : Place → A) (found : Option A) → Type 0
@@ -36,35 +37,35 @@ module _ {M Q : Type 0} (most : ℕ) (k v : Shape) (key_of : List ℕ → ℕ �
   AnswersOf of found =
       OfDescent most k v this.bytes.now this.pos (QueryOrders key_of key_order this.bytes.now query) (λ entry. found ≡ option_map of entry)
 
-  -- the value of an entry is found
+  -- the value of an entry is found whose key is equal
   abbrev pub FindsValue : {V : Type 0} (found : Option (Ref V)) → Type 0
   FindsValue found = FindsOf (value_at this.bytes) found
 
-  -- the value of the entry that the search ends at
+  -- the value of the entry is found that the search ends at
   abbrev pub LooksUpValue : {V : Type 0} (found : Option (Ref V)) → Type 0
   LooksUpValue found = LooksUpOf (value_at this.bytes) found
 
-  -- the value of the entry that the descent ends at
+  -- the value of the entry is found that the descent ends at
   abbrev pub AnswersValue : {V : Type 0} (found : Option (Ref V)) → Type 0
   AnswersValue found = AnswersOf (value_at this.bytes) found
 
-  -- the key of an entry is found
+  -- a key is found that is equal
   abbrev pub FindsKey : {K : Type 0} (found : Option (Ref K)) → Type 0
   FindsKey found = FindsOf (key_at this.bytes) found
 
-  -- the key of the entry that the descent ends at
+  -- the key of the entry is found that the descent ends at
   abbrev pub AnswersKey : {K : Type 0} (found : Option (Ref K)) → Type 0
   AnswersKey found = AnswersOf (key_at this.bytes) found
 
-  -- an entry is found
+  -- an entry is found whose key is equal
   abbrev pub FindsEntry : {K V : Type 0} (found : Option (Ref K × Ref V)) → Type 0
   FindsEntry found = FindsOf (entry_at this.bytes) found
 
-  -- the entry that the search ends at
+  -- the entry is found that the search ends at
   abbrev pub LooksUpEntry : {K V : Type 0} (found : Option (Ref K × Ref V)) → Type 0
   LooksUpEntry found = LooksUpOf (entry_at this.bytes) found
 
-  -- the entry that the descent ends at
+  -- the entry is found that the descent ends at
   abbrev pub AnswersEntry : {K V : Type 0} (found : Option (Ref K × Ref V)) → Type 0
   AnswersEntry found = AnswersOf (entry_at this.bytes) found
 
@@ -85,7 +86,7 @@ module _ {M Q : Type 0} (most : ℕ) (k v : Shape) (key_of : List ℕ → ℕ �
   AnswersWhether found =
       OfDescent most k v this.bytes.now this.pos (QueryOrders key_of key_order this.bytes.now query) (λ entry. found ≡ is_some entry)
 
-  -- the value of the entry that the descent ends at, and the number of entries that it compares
+  -- the value of the entry is found that the descent ends at, and the entries that it compares are counted
   abbrev pub AnswersValueCounted : {V : Type 0} (result : Option (Ref V) × Steps) → Type 0
   AnswersValueCounted result =
       (t : Tree Place) (order : Place → Ordering)
@@ -100,13 +101,14 @@ MayCompareKeys most k v pre f this query =
     (t : Tree Place) → IsMap most k.shape v this t
     → All (λ e. HasValue k.shape k.knows this.bytes.now e.key → pre f query (key_at this.bytes e)) (items t)
 
--- look-ups of a query by calls of a closure
+-- ---- look-ups of a query by calls of a closure
+
 module _ {F Q K V M : Type 0} (most : ℕ) (k v : Shape) (post : F → Q → Ref K → Ordering → Type 0) (f : F) (this : Ref M) (query : Q) where
   -- an entry is found whose key a call says to be equal
   abbrev pub FindsEntryBy : (found : Option (Ref K × Ref V)) → Type 0
   FindsEntryBy found = (t : Tree Place) → IsMap most k v this t → Finds (entry_at this.bytes) (CallsEqual post f query this.bytes) (items t) found
 
-  -- the entry that the descent ends at, by an order that is that of the calls
+  -- the entry is found that the descent ends at, by an order that is that of the calls
   abbrev pub AnswersEntryBy : (found : Option (Ref K × Ref V)) → Type 0
   AnswersEntryBy found =
       OfDescent most k v this.bytes.now this.pos (CallsOrder post f query this.bytes) (λ entry. found ≡ option_map (entry_at this.bytes) entry)

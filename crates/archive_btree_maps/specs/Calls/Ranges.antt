@@ -20,14 +20,15 @@ use Rattle.archive_btree_maps.specs.Refs.{entry_at}
 use Rattle.archive_btree_maps.specs.Walks.{WalksIn}
 use Rattle.archive_btree_maps.specs.declared.nodes.searching.stepping.EntryWalk.{EntryWalk}
 
--- of the map at a position, where calls say how the query of a bound compares with the key at a position
+-- ---- in the map at a position: calls return how the query of a bound compares with the key at a position
+
 module _ (most : ℕ) (k v : Shape) (bytes : List ℕ) (pos : ℕ) where
   -- the closure may be called with the query of each bound and the position of each key
   abbrev pub MayCompareBounds : {C Q : Type 0} (pre : C → Bor Q → ℕ → Type 0) (compare : C) (start end : Bound (Bor Q)) → Type 0
   MayCompareBounds pre compare start end =
       (t : Tree Place) → IsMapAt bytes most k v pos t → All (λ e. OfQueries (λ query. pre compare query e.key) start end) (items t)
 
-  -- P holds of the entries between two bounds, by an order of which the calls are, and by which the keys ascend
+  -- P holds of the entries between two bounds, by an order that is that of the calls, and by which the keys ascend
   abbrev pub OfBounds : {C Q : Type 0} (post : C → Bor Q → ℕ → Ordering → Type 0) (compare : C) (start end : Bound (Bor Q)) (P : List Place → Type 0) → Type 0
   OfBounds {Q = Q} post compare start end P =
       (t : Tree Place) (order : Q → Place → Ordering)
@@ -51,6 +52,8 @@ module _ (most : ℕ) (k v : Shape) (bytes : List ℕ) (pos : ℕ) where
   abbrev pub AreInBounds : {C Q : Type 0} (post : C → Bor Q → ℕ → Ordering → Type 0) (compare : C) (start end : Bound (Bor Q)) (es : List Place) → Type 0
   AreInBounds post compare start end es = OfBounds post compare start end (λ between. es ≡ between)
 
+-- ---- in the map that a reference leads to
+
 -- a closure may be called with the query of each bound of a range and each key of a map
 abbrev pub MayCompareRange : {F Q K M R : Type 0} (most : ℕ) (k : Ghosts K) (v : Shape) (pre : F → Bor Q → Ref K → Type 0) (f : F)
     (r : bounds.Ghosts R Q) (this : Ref M) (range : R) → Type 0
@@ -59,7 +62,7 @@ MayCompareRange most k v pre f r this range =
     → All (λ e. HasValue k.shape k.knows this.bytes.now e.key → MayCompare pre f (r.has_bounds range) (r.start_bound range) (r.end_bound range) this.bytes e)
     (items t)
 
--- an order is that of comparisons with the queries of both bounds of a range, and the keys ascend by it
+-- an order is that of the comparisons with the query of each bound of a range, and the keys ascend by it
 abbrev pub OrdersRange : {Q R : Type 0} (orders : Q → (Place → Ordering) → List Place → Type 0) (r : bounds.Ghosts R Q) (range : R)
     (order : Q → Place → Ordering) (es : List Place) → Type 0
 OrdersRange orders r range order es = OfQueries (λ query. orders query (order query) es × Ascends (order query) es) (r.start_bound range) (r.end_bound range)
@@ -69,11 +72,11 @@ abbrev pub items_in : {Q R : Type 0} (r : bounds.Ghosts R Q) (range : R) (order 
 items_in r range order es = items_between order (r.start_bound range) (r.end_bound range) es
 
 module _ {M K V : Type 0} (most : ℕ) (k v : Shape) where
-  -- these entries lie side by side in a map
+  -- these entries lie side by side in the map
   abbrev pub RangesOverRun : (this : Ref M) (result : List (Ref K × Ref V)) → Type 0
   RangesOverRun this result = (t : Tree Place) → IsMap most k v this t → IsRun result (map (entry_at this.bytes) (items t))
 
-  -- these are the entries in a range, by the comparison that keys have with queries
+  -- these are the entries in a range, by the comparison that keys have with its queries
   abbrev pub RangesOver : {R Q : Type 0} (key_of : List ℕ → ℕ → Q → Type 0) (key_order : Q → Q → Ordering) (r : bounds.Ghosts R Q) (this : Ref M)
       (range : R) (result : List (Ref K × Ref V)) → Type 0
   RangesOver {Q = Q} key_of key_order r this range result =

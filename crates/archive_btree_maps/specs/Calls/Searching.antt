@@ -28,6 +28,8 @@ CanSearch bytes layout root pre f = (t : Tree Place) × IsTreeAt bytes layout 1 
 abbrev pub MaySearch : {F : Type 0} (most : ℕ) (k v : Shape) (bytes : List ℕ) (pos : ℕ) (pre : F → ℕ → Type 0) (f : F) → Type 0
 MaySearch most k v bytes pos pre f = (t : Tree Place) → IsMapAt bytes most k v pos t → All (λ e. pre f e.key) (items t)
 
+-- ---- searches by calls
+
 module _ {F : Type 0} (is : Tree Place → Type 0) (post : F → ℕ → Ordering → Type 0) (compare : F) where
   -- what is found is an entry of the tree whose key a call says to be equal
   abbrev pub FindsAmong : (found : Option EntryAt) → Type 0
@@ -50,7 +52,8 @@ module _ {F : Type 0} (is : Tree Place → Type 0) (post : F → ℕ → Orderin
       → Orders post compare order (items t)
       → (option_map place_of result.0 ≡ descend order t) × (result.1 ≡ min (met order t) (2 ^ 64 - 1))
 
--- the map at a position is searched for the keys that are equal to a query
+-- ---- searches of the map at a position for a key that is equal to a query
+
 module _ {Q : Type 0} (most : ℕ) (k v : Shape) (key_of : List ℕ → ℕ → Q → Type 0) (key_order : Q → Q → Ordering) (bytes : List ℕ) (pos : ℕ) (query : Q) where
   -- what is found is an entry with such a key
   abbrev pub FindsPlace : (found : Option EntryAt) → Type 0

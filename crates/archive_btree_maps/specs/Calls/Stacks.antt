@@ -36,7 +36,7 @@ module _ (bytes : List ℕ) (layout : NodeLayout) where
   abbrev pub HasLastLeft : (root : ℕ) (stack : Stack) → Type 0
   HasLastLeft root stack = (t : Tree Place) → IsTreeAt bytes layout 1 root t → (before : List Place) × (items t ≡ before ++ items_left stack)
 
-  -- the items are left that do not pass a test, where none after them passes it
+  -- where all items after one that fails a test fail it as well, those that fail are left
   abbrev pub HasFailingLeft : {F : Type 0} (root : ℕ) (post : F → ℕ → Bool → Type 0) (passes : F) (stack : Stack) → Type 0
   HasFailingLeft root post passes stack =
       (t : Tree Place) (test : Place → Bool)

@@ -17,16 +17,18 @@ use Rattle.archive_btree_maps.specs.SetVisits as keys
 use Rattle.archive_btree_maps.specs.Visiting.{VisitsAll, BreaksWith, IsCallableAt}
 use Rattle.archive_btree_maps.specs.Walks.{BegunMap, IsWritten}
 
+-- ---- of the map that a reference leads to
+
 module _ {M : Type 0} (most : ℕ) (k v : Shape) (this : Ref M) where
   -- these are the entries of a map, in order
   abbrev pub IteratesEntries : {K V : Type 0} (result : List (Ref K × Ref V)) → Type 0
   IteratesEntries result = (t : Tree Place) → IsMap most k v this t → result ≡ map (entry_at this.bytes) (items t)
 
-  -- its keys
+  -- these are its keys, in order
   abbrev pub IteratesKeys : {K : Type 0} (result : List (Ref K)) → Type 0
   IteratesKeys result = (t : Tree Place) → IsMap most k v this t → result ≡ map (key_at this.bytes) (items t)
 
-  -- its values
+  -- these are its values, in the order of the keys
   abbrev pub IteratesValues : {V : Type 0} (result : List (Ref V)) → Type 0
   IteratesValues result = (t : Tree Place) → IsMap most k v this t → result ≡ map (value_at this.bytes) (items t)
 
@@ -41,7 +43,7 @@ module _ {M : Type 0} (most : ℕ) (k v : Shape) (this : Ref M) where
       (VisitsAll (CallsAt step this.bytes) f g (items t))
       (λ value. BreaksWith (CallsAt step this.bytes) f g (items t) value)
 
-  -- a closure may be called with each key, in any state
+  -- a closure may be called with each key, in any state that it may have reached
   abbrev pub MayVisitKeys : {F K : Type 0} (pre : F → Ref K → Type 0) → Type 0
   MayVisitKeys {F} pre = (t : Tree Place) → IsMap most k v this t → All (λ e. (f : F) → pre f (key_at this.bytes e)) (items t)
 
@@ -51,6 +53,8 @@ module _ {M : Type 0} (most : ℕ) (k v : Shape) (this : Ref M) where
       (t : Tree Place) → IsMap most k v this t → MatchOption result
       (keys.VisitsAll step f g (map (key_at this.bytes) (items t)))
       (λ value. keys.BreaksWith step f g (map (key_at this.bytes) (items t)) value)
+
+-- ---- of the map of a seal
 
 module _ {K V M : Type 0} (most : ℕ) (k : Ghosts K) (v : Ghosts V) where
   -- a closure may be called with each key and its value, whatever is written over the values, in any state

@@ -1,6 +1,6 @@
 //! Where the parts of a search tree's node lie.
 ghost use Rattle.archive_btree_maps.specs.Layout.{IsNodeLayout};
-ghost use Rattle.archive_btree_maps.specs.Calls.Checking.{IsExact, IsExactInBuffers};
+ghost use Rattle.archive_btree_maps.specs.Calls.Layout.{IsExact, IsExactInBuffers};
 
 use archive_forms_values::{greater, next_multiple};
 use archive_shape::Portable;

@@ -1,5 +1,5 @@
 //! The entries of an archived B-tree map between two bounds, by the position of the map.
-ghost use Rattle.std.specs.Prelude.{◌≡◌, List, None, IfSome, map};
+ghost use Rattle.std.specs.Prelude.{◌≡◌, None, IfSome, map};
 ghost use Rattle.std.specs.Iterator.{YieldsFirst, UpTo, item_count};
 ghost use Rattle.std.specs.Iterator.SizeHint.{IsWithinCount};
 ghost use Rattle.archive_shape_layout.specs.Shape.Shape.{tree};

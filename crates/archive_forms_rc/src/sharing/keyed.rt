@@ -2,11 +2,11 @@
 ghost use Rattle.std.specs.Prelude.{false, ⊤, refl};
 ghost use Rattle.archive_shape_layout.specs.Shape.Shape.{shared};
 ghost use Rattle.archive_shape_layout.specs.Shape.Pointee.{sized, slice, str};
-ghost use Rattle.archive_forms_laws.specs.Serializing.{CanResolve, Resolves};
 ghost use Rattle.archive_forms_rc.specs.Counted.{shared_rc_spelling, shared_slice_rc_spelling, shared_str_rc_spelling};
 ghost use Rattle.archive_forms_laws.proofs.Views.{kept_spells};
 ghost use Rattle.archive_forms_writing.proofs.Shared.{seen_value_spells, seen_slice_spells, seen_text_spells};
 ghost use Rattle.std.specs.Rc.{rc_slice_items, rc_str_bytes};
+ghost use Rattle.archive_forms_rc.specs.Calls.Resolving.{CanResolveRc, ResolvesRc, CanResolveRcSlice, ResolvesRcSlice, CanResolveRcStr, ResolvesRcStr};
 
 use crate::sharing::{SharingExt, serialize_rc_from_ref};
 use crate::{ArchivedRc, ArchivedRcSlice, ArchivedRcStr, RcFlavor, RcResolver};
@@ -34,11 +34,8 @@ impl<T: Archive> Archive for Shared<Rc<T>> {
         resolver: RcResolver,
         out: Place<'_, ArchivedRc<T::Archived, RcFlavor>>,
     ) -> Result<(), Error>
-        requires { CanResolve (shared_rc_spelling T.Archived.shape T.spelling)
-            (shared false (sized T.Archived.shape)) self.now resolver out.out.now out.start out.pos }
-        ensures { Resolves (shared_rc_spelling T.Archived.shape T.spelling)
-            (shared false (sized T.Archived.shape)) self.now resolver out.entry.pos out.entry.start
-            out.entry.out.now out.exit.0.now result }
+        requires { CanResolveRc T.Archived.shape T.spelling self.now resolver out }
+        ensures { ResolvesRc T.Archived.shape T.spelling self.now resolver out.entry out.exit result }
     {
         let Place {
             out,
@@ -75,11 +72,8 @@ impl<T: Archive> Archive for Shared<RcSlice<T>> {
         resolver: RcResolver,
         out: Place<'_, ArchivedRcSlice<T::Archived, RcFlavor>>,
     ) -> Result<(), Error>
-        requires { CanResolve (shared_slice_rc_spelling T.Archived.shape T.spelling)
-            (shared false (slice T.Archived.shape)) self.now resolver out.out.now out.start out.pos }
-        ensures { Resolves (shared_slice_rc_spelling T.Archived.shape T.spelling)
-            (shared false (slice T.Archived.shape)) self.now resolver out.entry.pos out.entry.start
-            out.entry.out.now out.exit.0.now result }
+        requires { CanResolveRcSlice T.Archived.shape T.spelling self.now resolver out }
+        ensures { ResolvesRcSlice T.Archived.shape T.spelling self.now resolver out.entry out.exit result }
     {
         let Place {
             out,
@@ -117,10 +111,8 @@ impl Archive for Shared<RcStr> {
         resolver: RcResolver,
         out: Place<'_, ArchivedRcStr<RcFlavor>>,
     ) -> Result<(), Error>
-        requires { CanResolve shared_str_rc_spelling (shared false str) self.now resolver out.out.now
-            out.start out.pos }
-        ensures { Resolves shared_str_rc_spelling (shared false str) self.now resolver out.entry.pos
-            out.entry.start out.entry.out.now out.exit.0.now result }
+        requires { CanResolveRcStr self.now resolver out }
+        ensures { ResolvesRcStr self.now resolver out.entry out.exit result }
     {
         let Place {
             out,
@@ -156,10 +148,8 @@ impl<T: Portable> ArchivedRc<T, RcFlavor> {
         resolver: RcResolver,
         out: Place<'_, ArchivedRc<T, RcFlavor>>,
     ) -> Result<(), Error>
-        requires { CanResolve (shared_rc_spelling T.shape U.spelling) (shared false (sized T.shape))
-            value.now resolver out.out.now out.start out.pos }
-        ensures { Resolves (shared_rc_spelling T.shape U.spelling) (shared false (sized T.shape))
-            value.now resolver out.entry.pos out.entry.start out.entry.out.now out.exit.0.now result }
+        requires { CanResolveRc T.shape U.spelling value.now resolver out }
+        ensures { ResolvesRc T.shape U.spelling value.now resolver out.entry out.exit result }
     {
         let Place {
             out,
@@ -182,10 +172,8 @@ impl<T: Portable> ArchivedRcSlice<T, RcFlavor> {
         resolver: RcResolver,
         out: Place<'_, ArchivedRcSlice<T, RcFlavor>>,
     ) -> Result<(), Error>
-        requires { CanResolve (shared_slice_rc_spelling T.shape U.spelling) (shared false (slice T.shape))
-            value.now resolver out.out.now out.start out.pos }
-        ensures { Resolves (shared_slice_rc_spelling T.shape U.spelling) (shared false (slice T.shape))
-            value.now resolver out.entry.pos out.entry.start out.entry.out.now out.exit.0.now result }
+        requires { CanResolveRcSlice T.shape U.spelling value.now resolver out }
+        ensures { ResolvesRcSlice T.shape U.spelling value.now resolver out.entry out.exit result }
     {
         let Place {
             out,
@@ -208,10 +196,8 @@ impl ArchivedRcStr<RcFlavor> {
         resolver: RcResolver,
         out: Place<'_, ArchivedRcStr<RcFlavor>>,
     ) -> Result<(), Error>
-        requires { CanResolve shared_str_rc_spelling (shared false str) value.now resolver out.out.now
-            out.start out.pos }
-        ensures { Resolves shared_str_rc_spelling (shared false str) value.now resolver out.entry.pos
-            out.entry.start out.entry.out.now out.exit.0.now result }
+        requires { CanResolveRcStr value.now resolver out }
+        ensures { ResolvesRcStr value.now resolver out.entry out.exit result }
     {
         let Place {
             out,

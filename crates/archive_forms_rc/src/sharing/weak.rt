@@ -3,12 +3,13 @@ ghost use Rattle.std.specs.Prelude.{◌-◌, ◌^◌, ◌<◌, false, None, Some
 ghost use Rattle.std.specs.Rc.{rc_slice_items, rc_str_bytes};
 ghost use Rattle.archive_shape_layout.specs.Shape.Shape.{shared, weak};
 ghost use Rattle.archive_shape_layout.specs.Shape.Pointee.{sized, slice, str};
-ghost use Rattle.archive_forms_laws.specs.Serializing.{CanResolve, HasState, Resolves, Serializes};
-ghost use Rattle.archive_forms_rc.specs.Counted.{shared_weak_spelling, shared_weak_slice_spelling, shared_weak_str_spelling, weak_rc_spelling, weak_slice_rc_spelling, weak_str_rc_spelling};
+ghost use Rattle.archive_forms_laws.specs.Serializing.{HasState, Serializes};
+ghost use Rattle.archive_forms_rc.specs.Counted.{shared_weak_spelling, shared_weak_slice_spelling, shared_weak_str_spelling, weak_str_rc_spelling};
 ghost use Rattle.archive_forms_rc.specs.WeakResolvers.{weak_resolver, counted_resolver};
 ghost use Rattle.archive_forms_laws.proofs.Views.{kept_spells, seen_spells};
 ghost use Rattle.archive_forms_writing.proofs.Shared.{seen_value_spells, seen_slice_spells, seen_text_spells};
 ghost use Rattle.archive_forms_writing.proofs.Weak.{weak_spells};
+ghost use Rattle.archive_forms_rc.specs.Calls.Resolving.{CanResolveWeak, ResolvesWeak, CanResolveWeakSlice, ResolvesWeakSlice, CanResolveWeakStr, ResolvesWeakStr, CanResolveSharedWeak, ResolvesSharedWeak, CanResolveSharedWeakSlice, ResolvesSharedWeakSlice, CanResolveSharedWeakStr, ResolvesSharedWeakStr, WritesWeak, WritesWeakSlice};
 
 use crate::sharing::{Shared, SharingExt};
 use crate::{ArchivedRcWeak, ArchivedRcWeakSlice, ArchivedRcWeakStr, RcFlavor, RcWeakResolver};
@@ -33,11 +34,8 @@ impl<T: Portable> ArchivedRcWeak<T, RcFlavor> {
         resolver: RcWeakResolver,
         out: Place<'_, ArchivedRcWeak<T, RcFlavor>>,
     ) -> Result<(), Error>
-        requires { CanResolve (weak_rc_spelling T.shape U.spelling)
-            (weak false (sized T.shape)) value.now resolver out.out.now out.start out.pos }
-        ensures { Resolves (weak_rc_spelling T.shape U.spelling)
-            (weak false (sized T.shape)) value.now resolver out.entry.pos out.entry.start
-            out.entry.out.now out.exit.0.now result }
+        requires { CanResolveWeak T.shape U.spelling value.now resolver out }
+        ensures { ResolvesWeak T.shape U.spelling value.now resolver out.entry out.exit result }
     {
         let Place {
             out,
@@ -56,8 +54,7 @@ impl<T: Portable> ArchivedRcWeak<T, RcFlavor> {
     ) -> Result<RcWeakResolver, Error>
         requires room { S.failures serializer.old < 2 ^ 64 - 1 }
         requires state { HasState S.pos S.known serializer.old }
-        ensures { Serializes (weak_rc_spelling T.shape U.spelling) S.Writer value.now
-            serializer.old serializer.new result }
+        ensures { WritesWeak T.shape U.spelling S.Writer value.now serializer.old serializer.new result }
     {
         match value.serialize(serializer) {
             Ok(resolver) => Ok(RcWeakResolver::from_option(resolver)),
@@ -77,11 +74,8 @@ impl<T: Portable> ArchivedRcWeakSlice<T, RcFlavor> {
         resolver: RcWeakResolver,
         out: Place<'_, ArchivedRcWeakSlice<T, RcFlavor>>,
     ) -> Result<(), Error>
-        requires { CanResolve (weak_slice_rc_spelling T.shape U.spelling)
-            (weak false (slice T.shape)) value.now resolver out.out.now out.start out.pos }
-        ensures { Resolves (weak_slice_rc_spelling T.shape U.spelling)
-            (weak false (slice T.shape)) value.now resolver out.entry.pos out.entry.start
-            out.entry.out.now out.exit.0.now result }
+        requires { CanResolveWeakSlice T.shape U.spelling value.now resolver out }
+        ensures { ResolvesWeakSlice T.shape U.spelling value.now resolver out.entry out.exit result }
     {
         let Place {
             out,
@@ -100,8 +94,7 @@ impl<T: Portable> ArchivedRcWeakSlice<T, RcFlavor> {
     ) -> Result<RcWeakResolver, Error>
         requires room { S.failures serializer.old < 2 ^ 64 - 1 }
         requires state { HasState S.pos S.known serializer.old }
-        ensures { Serializes (weak_slice_rc_spelling T.shape U.spelling) S.Writer value.now
-            serializer.old serializer.new result }
+        ensures { WritesWeakSlice T.shape U.spelling S.Writer value.now serializer.old serializer.new result }
     {
         match value.serialize(serializer) {
             Ok(resolver) => Ok(RcWeakResolver::from_option(resolver)),
@@ -121,10 +114,8 @@ impl ArchivedRcWeakStr<RcFlavor> {
         resolver: RcWeakResolver,
         out: Place<'_, ArchivedRcWeakStr<RcFlavor>>,
     ) -> Result<(), Error>
-        requires { CanResolve weak_str_rc_spelling (weak false str) value.now resolver out.out.now
-            out.start out.pos }
-        ensures { Resolves weak_str_rc_spelling (weak false str) value.now resolver out.entry.pos
-            out.entry.start out.entry.out.now out.exit.0.now result }
+        requires { CanResolveWeakStr value.now resolver out }
+        ensures { ResolvesWeakStr value.now resolver out.entry out.exit result }
     {
         let Place {
             out,
@@ -165,11 +156,8 @@ impl<T: Archive> Archive for SharedWeak<Rc<T>> {
         resolver: RcWeakResolver,
         out: Place<'_, ArchivedRcWeak<T::Archived, RcFlavor>>,
     ) -> Result<(), Error>
-        requires { CanResolve (shared_weak_spelling T.Archived.shape T.spelling)
-            (weak false (sized T.Archived.shape)) self.now resolver out.out.now out.start out.pos }
-        ensures { Resolves (shared_weak_spelling T.Archived.shape T.spelling)
-            (weak false (sized T.Archived.shape)) self.now resolver out.entry.pos out.entry.start
-            out.entry.out.now out.exit.0.now result }
+        requires { CanResolveSharedWeak T.Archived.shape T.spelling self.now resolver out }
+        ensures { ResolvesSharedWeak T.Archived.shape T.spelling self.now resolver out.entry out.exit result }
     {
         let Place {
             out,
@@ -205,11 +193,8 @@ impl<T: Archive> Archive for SharedWeak<RcSlice<T>> {
         resolver: RcWeakResolver,
         out: Place<'_, ArchivedRcWeakSlice<T::Archived, RcFlavor>>,
     ) -> Result<(), Error>
-        requires { CanResolve (shared_weak_slice_spelling T.Archived.shape T.spelling)
-            (weak false (slice T.Archived.shape)) self.now resolver out.out.now out.start out.pos }
-        ensures { Resolves (shared_weak_slice_spelling T.Archived.shape T.spelling)
-            (weak false (slice T.Archived.shape)) self.now resolver out.entry.pos out.entry.start
-            out.entry.out.now out.exit.0.now result }
+        requires { CanResolveSharedWeakSlice T.Archived.shape T.spelling self.now resolver out }
+        ensures { ResolvesSharedWeakSlice T.Archived.shape T.spelling self.now resolver out.entry out.exit result }
     {
         let Place {
             out,
@@ -249,10 +234,8 @@ impl Archive for SharedWeak<RcStr> {
         resolver: RcWeakResolver,
         out: Place<'_, ArchivedRcWeakStr<RcFlavor>>,
     ) -> Result<(), Error>
-        requires { CanResolve shared_weak_str_spelling (weak false str) self.now resolver
-            out.out.now out.start out.pos }
-        ensures { Resolves shared_weak_str_spelling (weak false str) self.now resolver
-            out.entry.pos out.entry.start out.entry.out.now out.exit.0.now result }
+        requires { CanResolveSharedWeakStr self.now resolver out }
+        ensures { ResolvesSharedWeakStr self.now resolver out.entry out.exit result }
     {
         let Place {
             out,

@@ -38,11 +38,16 @@ ChecksText kept bytes start len old result new =
 
 -- ---- of parts of several types, under all names that each of them knows
 
+-- the check of a part at a position, where there are two types
+abbrev pub ChecksAtBoth : {C : Type 0} → (C → Kept) → (knows others : Names → Type 0) → List ℕ → ℕ → Shape
+    → C → Result (Unit {0}) Error → C → Type 0
+ChecksAtBoth kept knows others bytes pos s old result new =
+    (names : Names) → knows names → others names → Checks names bytes (at pos s) (kept old) result (kept new)
+
 -- the check of a result at a position
 abbrev pub ChecksResult : {C : Type 0} → (C → Kept) → (knows others : Names → Type 0) → List ℕ → ℕ → (s t : Shape)
     → C → Result (Unit {0}) Error → C → Type 0
-ChecksResult kept knows others bytes pos s t old result new =
-    (names : Names) → knows names → others names → Checks names bytes (at pos (result_shape s t)) (kept old) result (kept new)
+ChecksResult kept knows others bytes pos s t old result new = ChecksAtBoth kept knows others bytes pos (result_shape s t) old result new
 
 -- the check of a tuple at a position, of one field
 abbrev pub ChecksTuple1 : {C : Type 0} → (C → Kept) → (Names → Type 0) → List ℕ → ℕ → Shape → C → Result (Unit {0}) Error → C → Type 0
@@ -51,8 +56,7 @@ ChecksTuple1 kept knows bytes pos s old result new = ChecksAt kept knows bytes p
 -- of two fields
 abbrev pub ChecksTuple2 : {C : Type 0} → (C → Kept) → (knows others : Names → Type 0) → List ℕ → ℕ → (s t : Shape)
     → C → Result (Unit {0}) Error → C → Type 0
-ChecksTuple2 kept knows others bytes pos s t old result new =
-    (names : Names) → knows names → others names → Checks names bytes (at pos (tuple2 s t)) (kept old) result (kept new)
+ChecksTuple2 kept knows others bytes pos s t old result new = ChecksAtBoth kept knows others bytes pos (tuple2 s t) old result new
 
 -- of three
 abbrev pub ChecksTuple3 : {C : Type 0} → (C → Kept) → (knows others further : Names → Type 0) → List ℕ → ℕ → (s t u : Shape)

@@ -42,17 +42,17 @@ module _ {K V : Type 0} (k : Portable K) (v : Portable V) where
     LendsFound found result =
         MatchOption result (found ≡ None) (λ lent. (at : ℕ) × (found ≡ Some at) × LendsAt at lent)
 
-    -- a call may be lent both
+    -- a call may be lent those at a position
     abbrev pub MayVisitAt : (at : ℕ) (pre : Ref K → MutBor (OwnSeal V) → Type 0) → Type 0
     MayVisitAt at pre =
         MayCallLent v.SIZE bytes at (field_position k.shape no_shapes v.shape at)
         (λ key. HasValue k.shape k.knows key.bytes.now key.pos) pre
 
-    -- those of any entry
+    -- a call may be lent those of any entry
     abbrev pub MayVisitEntries : (pre : Ref K → MutBor (OwnSeal V) → Type 0) → Type 0
     MayVisitEntries pre = (at : ℕ) → HasEntryAt k.shape v.shape k.knows v.knows bytes at → MayVisitAt at pre
 
-    -- both are lent to a call, which leaves other bytes
+    -- those at a position are lent to a call, which leaves other bytes
     abbrev pub LeavesAt : (at : ℕ) (calls : Ref K → MutBor (OwnSeal V) → MutBor (OwnSeal V) → Type 0) (out : List ℕ)
         → Type 0
     LeavesAt at calls out = LeavesLent v.SIZE bytes at (field_position k.shape no_shapes v.shape at) calls out

@@ -84,7 +84,7 @@ module _ {H Q : Type 0} (default : Default H) (hasher : Hasher H) (hash_input : 
   -- ---- by the caller's comparison
 
   module _ {K : Type 0} (says : Bor Q → Ref K → Bool → Type 0) (k v : Shape) where
-    -- the same, where the comparison sees the keys in these bytes
+    -- an entry of the query's hash is looked up, by a comparison that sees the keys in these bytes
     abbrev pub LooksUpBy : {A : Type 0} (bytes : Bor (List ℕ)) (query : Bor Q) (item : ℕ → A) (b : Buckets)
         (found : Option A) → Type 0
     LooksUpBy bytes query item b found =

@@ -1,9 +1,10 @@
 //! Look-ups in archived index maps by a comparison that the caller passes.
-ghost use Rattle.std.specs.Prelude.{ℕ, IfSome};
+ghost use Rattle.std.specs.Prelude.{IfSome};
 ghost use Rattle.archive_forms_values.specs.Parts.{HasValue};
-ghost use Rattle.archive_hash_maps.specs.Maps.{IsThere, HashesTo, query_calls, key_at};
-ghost use Rattle.archive_index.specs.Maps.{IndexMap, IsMap, HasMap};
-ghost use Rattle.archive_index.specs.Lookups.{LooksUpEntry, value_of, pair_of, full_of};
+ghost use Rattle.archive_hash_maps.specs.Maps.{IsThere};
+ghost use Rattle.archive_index.specs.Maps.{HasMap};
+ghost use Rattle.archive_hash_maps.specs.Calls.Tables.{MayCall};
+ghost use Rattle.archive_index.specs.Calls.Keys.{GetsFullBy, GetsEntryBy, GetsValueBy, GetsIndexBy};
 
 use crate::map::ArchivedIndexMap;
 use crate::map::search::{entry_at, search_with};
@@ -20,10 +21,9 @@ impl<K: Portable, V: Portable, H: Hasher + Default + Drop> ArchivedIndexMap<K, V
         accepts: &F,
     ) -> Option<(usize, Ref<'a, K>, Ref<'a, V>)>
         requires has { HasMap K.shape V.shape K.knows V.knows this }
-        requires callable { (at : ℕ) → HasValue K.shape K.knows this.bytes.now at → F.pre accepts.now query (key_at this.bytes at) }
+        requires callable { MayCall K.shape K.knows this.bytes (F.pre accepts.now query) }
         ensures there { IfSome result (λ r. IsThere K.shape V.shape K.knows V.knows (r.1, r.2)) }
-        ensures answers { (m : IndexMap) → IsMap K.shape V.shape this.entry m
-            → LooksUpEntry this.entry.bytes.now K.shape V.shape m (HashesTo H.is_default H.write H.finish (Q.hash_input query.now)) (query_calls F.post accepts.now query.entry this.entry.bytes) (full_of this.entry.bytes K.shape V.shape m) result }
+        ensures answers { GetsFullBy K.shape V.shape H.Default H.Hasher Q.Hash (F.post accepts.now) query.entry this.entry result }
     {
         match search_with::<Q, K, V, H, F>(this.bytes, this.pos, query, accepts) {
             Some(index) => {
@@ -42,10 +42,9 @@ impl<K: Portable, V: Portable, H: Hasher + Default + Drop> ArchivedIndexMap<K, V
         accepts: &F,
     ) -> Option<(Ref<'a, K>, Ref<'a, V>)>
         requires has { HasMap K.shape V.shape K.knows V.knows this }
-        requires callable { (at : ℕ) → HasValue K.shape K.knows this.bytes.now at → F.pre accepts.now query (key_at this.bytes at) }
+        requires callable { MayCall K.shape K.knows this.bytes (F.pre accepts.now query) }
         ensures there { IfSome result (IsThere K.shape V.shape K.knows V.knows) }
-        ensures answers { (m : IndexMap) → IsMap K.shape V.shape this.entry m
-            → LooksUpEntry this.entry.bytes.now K.shape V.shape m (HashesTo H.is_default H.write H.finish (Q.hash_input query.now)) (query_calls F.post accepts.now query.entry this.entry.bytes) (pair_of this.entry.bytes K.shape V.shape m) result }
+        ensures answers { GetsEntryBy K.shape V.shape H.Default H.Hasher Q.Hash (F.post accepts.now) query.entry this.entry result }
     {
         match ArchivedIndexMap::get_full_with(this, query, accepts) {
             Some((_, key, value)) => Some((key, value)),
@@ -60,10 +59,9 @@ impl<K: Portable, V: Portable, H: Hasher + Default + Drop> ArchivedIndexMap<K, V
         accepts: &F,
     ) -> Option<Ref<'a, V>>
         requires has { HasMap K.shape V.shape K.knows V.knows this }
-        requires callable { (at : ℕ) → HasValue K.shape K.knows this.bytes.now at → F.pre accepts.now query (key_at this.bytes at) }
+        requires callable { MayCall K.shape K.knows this.bytes (F.pre accepts.now query) }
         ensures there { IfSome result (λ r. HasValue V.shape V.knows r.bytes.now r.pos) }
-        ensures answers { (m : IndexMap) → IsMap K.shape V.shape this.entry m
-            → LooksUpEntry this.entry.bytes.now K.shape V.shape m (HashesTo H.is_default H.write H.finish (Q.hash_input query.now)) (query_calls F.post accepts.now query.entry this.entry.bytes) (value_of this.entry.bytes K.shape V.shape m) result }
+        ensures answers { GetsValueBy K.shape V.shape H.Default H.Hasher Q.Hash (F.post accepts.now) query.entry this.entry result }
     {
         match ArchivedIndexMap::get_full_with(this, query, accepts) {
             Some((_, _, value)) => Some(value),
@@ -78,9 +76,8 @@ impl<K: Portable, V: Portable, H: Hasher + Default + Drop> ArchivedIndexMap<K, V
         accepts: &F,
     ) -> Option<usize>
         requires has { HasMap K.shape V.shape K.knows V.knows this }
-        requires callable { (at : ℕ) → HasValue K.shape K.knows this.bytes.now at → F.pre accepts.now query (key_at this.bytes at) }
-        ensures answers { (m : IndexMap) → IsMap K.shape V.shape this.entry m
-            → LooksUpEntry this.entry.bytes.now K.shape V.shape m (HashesTo H.is_default H.write H.finish (Q.hash_input query.now)) (query_calls F.post accepts.now query.entry this.entry.bytes) (λ i. i) result }
+        requires callable { MayCall K.shape K.knows this.bytes (F.pre accepts.now query) }
+        ensures answers { GetsIndexBy K.shape V.shape H.Default H.Hasher Q.Hash (F.post accepts.now) query.entry this.entry result }
     {
         search_with::<Q, K, V, H, F>(this.bytes, this.pos, query, accepts)
     }

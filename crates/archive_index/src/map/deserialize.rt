@@ -1,14 +1,14 @@
 //! Reads archived index maps back as the lists of their pairs.
-ghost use Rattle.std.specs.Prelude.{◌+◌, IfOk};
-ghost use Rattle.archive_shape_layout.specs.Shape.{size_of};
-ghost use Rattle.archive_shape_layout.specs.Shape.Shape.{index_map};
+ghost use Rattle.std.specs.Prelude.{IfOk};
 ghost use Rattle.archive_forms_values.specs.Tuples.{tuple2};
 ghost use Rattle.archive_forms_values.specs.Parts.{HasValue, both};
-ghost use Rattle.archive_forms.specs.Deserializing.{Deserializes, DeserializesBy};
+ghost use Rattle.archive_forms.specs.Deserializing.{DeserializesBy};
 ghost use Rattle.archive_forms.specs.Keeping.{both_of};
 ghost use Rattle.archive_forms.specs.Reading.{reads_all, reads_in, reads_tuple2};
-ghost use Rattle.archive_forms.specs.Steps.{StepTakes, StepReads};
+ghost use Rattle.archive_forms.specs.Steps.{StepTakes};
 ghost use Rattle.archive_index.specs.Maps.{HasMap};
+ghost use Rattle.archive_index.specs.Calls.Reading.{StepTakesKey, StepTakesValue, DeserializesPair, DeserializesMap};
+ghost use Rattle.archive_forms.specs.Calls.Steps.{StepReadsBack};
 
 use crate::map::ArchivedIndexMap;
 use crate::map::entries::entries;
@@ -46,14 +46,11 @@ fn deserialize_pair<
 >
     requires there { HasValue (tuple2 A.shape B.shape) (both A.knows B.knows) bytes.now pos }
     requires kept { D.is_of deserializer.old bytes.now }
-    requires takes_key { StepTakes F.Fn read_key.now A.shape A.knows D.is_of bytes.now
-        (pos + size_of (tuple2 A.shape B.shape)) }
-    requires reads_key { StepReads F.Fn read_key.now A.shape A.knows D.is_of bytes.now (λ q. q.0) A.reads }
-    requires takes_value { StepTakes G.Fn read_value.now B.shape B.knows D.is_of bytes.now
-        (pos + size_of (tuple2 A.shape B.shape)) }
-    requires reads_value { StepReads G.Fn read_value.now B.shape B.knows D.is_of bytes.now (λ q. q.0) B.reads }
-    ensures value { DeserializesBy (reads_tuple2 A.reads B.reads) (tuple2 A.shape B.shape)
-        (both A.knows B.knows) bytes.now pos (λ q. q.0) result }
+    requires takes_key { StepTakesKey F.Fn read_key.now A.ReadBack B.shape D.is_of bytes.now pos }
+    requires reads_key { StepReadsBack F.Fn read_key.now A.ReadBack D.is_of bytes.now }
+    requires takes_value { StepTakesValue G.Fn read_value.now A.shape B.ReadBack D.is_of bytes.now pos }
+    requires reads_value { StepReadsBack G.Fn read_value.now B.ReadBack D.is_of bytes.now }
+    ensures value { DeserializesPair A.ReadBack B.ReadBack bytes.now pos result }
     ensures keeps { IfOk result (λ _. D.is_of deserializer.new bytes.now) }
 {
     let key = match read_key(deserializer, pos) {
@@ -89,11 +86,10 @@ pub fn deserialize_index_map_each<
     requires there { HasMap A.shape B.shape A.knows B.knows this }
     requires kept { D.is_of deserializer.old this.bytes.now }
     requires takes_key { StepTakes F.Fn read_key A.shape A.knows D.is_of this.bytes.now this.pos }
-    requires reads_key { StepReads F.Fn read_key A.shape A.knows D.is_of this.bytes.now (λ q. q.0) A.reads }
+    requires reads_key { StepReadsBack F.Fn read_key A.ReadBack D.is_of this.bytes.now }
     requires takes_value { StepTakes G.Fn read_value B.shape B.knows D.is_of this.bytes.now this.pos }
-    requires reads_value { StepReads G.Fn read_value B.shape B.knows D.is_of this.bytes.now (λ q. q.0) B.reads }
-    ensures value { Deserializes (reads_in (λ xs. xs.items) (reads_all (reads_tuple2 A.reads B.reads)))
-        (index_map A.shape B.shape) (both A.knows B.knows) this.entry.bytes.now this.entry.pos result }
+    requires reads_value { StepReadsBack G.Fn read_value B.ReadBack D.is_of this.bytes.now }
+    ensures value { DeserializesMap A.ReadBack B.ReadBack this.entry result }
     ensures keeps { IfOk result (λ _. D.is_of deserializer.new this.entry.bytes.now) }
 {
     let entries = entries(this);
@@ -117,14 +113,11 @@ pub fn deserialize_index_map_each<
         >
             requires there { HasValue (tuple2 A.shape B.shape) (both A.knows B.knows) bytes.now at }
             requires kept { D.is_of d.old bytes.now }
-            requires takes_key { StepTakes F.Fn read_key A.shape A.knows D.is_of bytes.now
-                (at + size_of (tuple2 A.shape B.shape)) }
-            requires reads_key { StepReads F.Fn read_key A.shape A.knows D.is_of bytes.now (λ q. q.0) A.reads }
-            requires takes_value { StepTakes G.Fn read_value B.shape B.knows D.is_of bytes.now
-                (at + size_of (tuple2 A.shape B.shape)) }
-            requires reads_value { StepReads G.Fn read_value B.shape B.knows D.is_of bytes.now (λ q. q.0) B.reads }
-            ensures value { DeserializesBy (reads_tuple2 A.reads B.reads) (tuple2 A.shape B.shape)
-                (both A.knows B.knows) bytes.entry.now at (λ q. q.0) result }
+            requires takes_key { StepTakesKey F.Fn read_key A.ReadBack B.shape D.is_of bytes.now at }
+            requires reads_key { StepReadsBack F.Fn read_key A.ReadBack D.is_of bytes.now }
+            requires takes_value { StepTakesValue G.Fn read_value A.shape B.ReadBack D.is_of bytes.now at }
+            requires reads_value { StepReadsBack G.Fn read_value B.ReadBack D.is_of bytes.now }
+            ensures value { DeserializesPair A.ReadBack B.ReadBack bytes.entry.now at result }
             ensures keeps { IfOk result (λ _. D.is_of d.new bytes.entry.now) }
         { deserialize_pair::<K, V, A, B, D, F, G>(bytes, at, d, &read_key, &read_value) },
     )

@@ -1,10 +1,11 @@
 //! Iterators over the entries of an archived index map, in its order.
-ghost use Rattle.std.specs.Prelude.{◌≡◌, ◌+◌, ◌*◌, ◌^◌, ◌<◌, IfSome, All, length, map};
+ghost use Rattle.std.specs.Prelude.{◌+◌, ◌*◌, ◌^◌, ◌<◌, IfSome, All, length, map};
 ghost use Rattle.std.specs.Iterator.{YieldsFirst, UpTo, item_count};
 ghost use Rattle.std.specs.Iterator.SizeHint.{IsExactHint, IsWithinCount};
 ghost use Rattle.archive_forms_values.specs.Parts.{HasValue};
-ghost use Rattle.archive_hash_maps.specs.Maps.{IsThere, key_at, value_at, entry_at, pair_at};
-ghost use Rattle.archive_index.specs.Maps.{IndexMap, IsMap, HasMap, entry_positions};
+ghost use Rattle.archive_hash_maps.specs.Maps.{IsThere, pair_at};
+ghost use Rattle.archive_index.specs.Maps.{HasMap};
+ghost use Rattle.archive_index.specs.Calls.Entries.{ListsEntries, ListsKeys, ListsValues};
 
 use crate::map::ArchivedIndexMap;
 use crate::map::entries::entries_at;
@@ -171,8 +172,7 @@ impl<K: Portable, V: Portable, H> ArchivedIndexMap<K, V, H> {
     pub fn iter<'a>(this: Ref<'a, ArchivedIndexMap<K, V, H>>) -> Iter<'a, K, V>
         requires { HasMap K.shape V.shape K.knows V.knows this }
         ensures there { All (IsThere K.shape V.shape K.knows V.knows) result }
-        ensures entries { (m : IndexMap) → IsMap K.shape V.shape this.entry m
-            → result ≡ map (entry_at this.entry.bytes K.shape V.shape) (entry_positions K.shape V.shape m) }
+        ensures entries { ListsEntries K.shape V.shape this.entry result }
     {
         let _len = this.bytes.len();
         let (at, left) = entries_at::<K, V>(this.bytes, this.pos);
@@ -190,8 +190,7 @@ impl<K: Portable, V: Portable, H> ArchivedIndexMap<K, V, H> {
     pub fn keys<'a>(this: Ref<'a, ArchivedIndexMap<K, V, H>>) -> Keys<'a, K, V>
         requires { HasMap K.shape V.shape K.knows V.knows this }
         ensures there { All (λ r. HasValue K.shape K.knows r.bytes.now r.pos) result }
-        ensures keys { (m : IndexMap) → IsMap K.shape V.shape this.entry m
-            → result ≡ map (key_at this.entry.bytes) (entry_positions K.shape V.shape m) }
+        ensures keys { ListsKeys K.shape V.shape this.entry result }
     {
         Keys {
             entries: ArchivedIndexMap::iter(this),
@@ -202,8 +201,7 @@ impl<K: Portable, V: Portable, H> ArchivedIndexMap<K, V, H> {
     pub fn values<'a>(this: Ref<'a, ArchivedIndexMap<K, V, H>>) -> Values<'a, K, V>
         requires { HasMap K.shape V.shape K.knows V.knows this }
         ensures there { All (λ r. HasValue V.shape V.knows r.bytes.now r.pos) result }
-        ensures values { (m : IndexMap) → IsMap K.shape V.shape this.entry m
-            → result ≡ map (value_at this.entry.bytes K.shape V.shape) (entry_positions K.shape V.shape m) }
+        ensures values { ListsValues K.shape V.shape this.entry result }
     {
         Values {
             entries: ArchivedIndexMap::iter(this),

@@ -1,10 +1,9 @@
 //! Look-ups of keys in archived index maps.
-ghost use Rattle.std.specs.Prelude.{◌≡◌, ℕ, IfSome, Option};
-ghost use Rattle.std.specs.Option.{is_some};
+ghost use Rattle.std.specs.Prelude.{IfSome};
 ghost use Rattle.archive_forms_values.specs.Parts.{HasValue};
-ghost use Rattle.archive_hash_maps.specs.Maps.{IsThere, HashesTo, KeySays};
-ghost use Rattle.archive_index.specs.Maps.{IndexMap, IsMap, HasMap};
-ghost use Rattle.archive_index.specs.Lookups.{LooksUpEntry, value_of, pair_of, full_of};
+ghost use Rattle.archive_hash_maps.specs.Maps.{IsThere};
+ghost use Rattle.archive_index.specs.Maps.{HasMap};
+ghost use Rattle.archive_index.specs.Calls.Keys.{GetsFull, GetsEntry, GetsValue, GetsIndex, SaysKey};
 
 use crate::map::ArchivedIndexMap;
 use crate::map::search::{entry_at, search_key};
@@ -22,8 +21,7 @@ impl<K, V: Portable, H: Hasher + Default + Drop> ArchivedIndexMap<K, V, H> {
         K: HashedKey<Q>,
         requires has { HasMap K.shape V.shape K.knows V.knows this }
         ensures there { IfSome result (λ r. IsThere K.shape V.shape K.knows V.knows (r.1, r.2)) }
-        ensures answers { (m : IndexMap) → IsMap K.shape V.shape this.entry m
-            → LooksUpEntry this.entry.bytes.now K.shape V.shape m (HashesTo H.is_default H.write H.finish (Q.hash_input query.now)) (KeySays K.key_of K.order this.entry.bytes.now query.now) (full_of this.entry.bytes K.shape V.shape m) result }
+        ensures answers { GetsFull K.HashedKey V.shape H.Default H.Hasher Q.Hash query.now this.entry result }
     {
         match search_key::<Q, K, V, H>(this.bytes, this.pos, query) {
             Some(index) => {
@@ -44,8 +42,7 @@ impl<K, V: Portable, H: Hasher + Default + Drop> ArchivedIndexMap<K, V, H> {
         K: HashedKey<Q>,
         requires has { HasMap K.shape V.shape K.knows V.knows this }
         ensures there { IfSome result (IsThere K.shape V.shape K.knows V.knows) }
-        ensures answers { (m : IndexMap) → IsMap K.shape V.shape this.entry m
-            → LooksUpEntry this.entry.bytes.now K.shape V.shape m (HashesTo H.is_default H.write H.finish (Q.hash_input query.now)) (KeySays K.key_of K.order this.entry.bytes.now query.now) (pair_of this.entry.bytes K.shape V.shape m) result }
+        ensures answers { GetsEntry K.HashedKey V.shape H.Default H.Hasher Q.Hash query.now this.entry result }
     {
         match ArchivedIndexMap::get_full(this, query) {
             Some((_, key, value)) => Some((key, value)),
@@ -62,8 +59,7 @@ impl<K, V: Portable, H: Hasher + Default + Drop> ArchivedIndexMap<K, V, H> {
         K: HashedKey<Q>,
         requires has { HasMap K.shape V.shape K.knows V.knows this }
         ensures there { IfSome result (λ r. HasValue V.shape V.knows r.bytes.now r.pos) }
-        ensures answers { (m : IndexMap) → IsMap K.shape V.shape this.entry m
-            → LooksUpEntry this.entry.bytes.now K.shape V.shape m (HashesTo H.is_default H.write H.finish (Q.hash_input query.now)) (KeySays K.key_of K.order this.entry.bytes.now query.now) (value_of this.entry.bytes K.shape V.shape m) result }
+        ensures answers { GetsValue K.HashedKey V.shape H.Default H.Hasher Q.Hash query.now this.entry result }
     {
         match ArchivedIndexMap::get_full(this, query) {
             Some((_, _, value)) => Some(value),
@@ -79,8 +75,7 @@ impl<K, V: Portable, H: Hasher + Default + Drop> ArchivedIndexMap<K, V, H> {
     where
         K: HashedKey<Q>,
         requires has { HasMap K.shape V.shape K.knows V.knows this }
-        ensures answers { (m : IndexMap) → IsMap K.shape V.shape this.entry m
-            → LooksUpEntry this.entry.bytes.now K.shape V.shape m (HashesTo H.is_default H.write H.finish (Q.hash_input query.now)) (KeySays K.key_of K.order this.entry.bytes.now query.now) (λ i. i) result }
+        ensures answers { GetsIndex K.HashedKey V.shape H.Default H.Hasher Q.Hash query.now this.entry result }
     {
         search_key::<Q, K, V, H>(this.bytes, this.pos, query)
     }
@@ -90,9 +85,7 @@ impl<K, V: Portable, H: Hasher + Default + Drop> ArchivedIndexMap<K, V, H> {
     where
         K: HashedKey<Q>,
         requires has { HasMap K.shape V.shape K.knows V.knows this }
-        ensures answers { (m : IndexMap) → IsMap K.shape V.shape this.entry m
-            → (found : Option ℕ) × (result ≡ is_some found)
-            × LooksUpEntry this.entry.bytes.now K.shape V.shape m (HashesTo H.is_default H.write H.finish (Q.hash_input query.now)) (KeySays K.key_of K.order this.entry.bytes.now query.now) (λ i. i) found }
+        ensures answers { SaysKey K.HashedKey V.shape H.Default H.Hasher Q.Hash query.now this.entry result }
     {
         search_key::<Q, K, V, H>(this.bytes, this.pos, query).is_some()
     }

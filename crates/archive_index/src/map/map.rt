@@ -2,14 +2,13 @@
 ghost use Rattle.std.specs.Prelude.{◌≡◌, ◌++◌, ◌↔◌, ◌+◌, ◌≤◌, length, ⊤, IsTrue};
 ghost use Rattle.std.proofs.Common.{refl, lit<, lit≤};
 ghost use Rattle.archive_shape_layout.specs.Shape.Shape.{index_map, table};
-ghost use Rattle.archive_shape_layout.specs.Content.{Names};
-ghost use Rattle.archive_shape_layout.specs.Content.Part.{at};
-ghost use Rattle.archive_shape.specs.Checks.{Checks, Moves};
+ghost use Rattle.archive_shape.specs.Checks.{Moves};
 ghost use Rattle.archive_shape.specs.Kept.{IsWithin};
 ghost use Rattle.archive_shape_layout.proofs.Naming.{first_types, other_types};
 ghost use Rattle.archive_forms_values.specs.Parts.{HasValue, both};
 ghost use Rattle.archive_index.specs.Maps.{IndexMap, IsMap, HasMap, count_of};
 ghost use Rattle.archive_forms_laws.specs.Sample.{number_shape};
+ghost use Rattle.archive_index.specs.Calls.Checking.{ChecksMap};
 
 use crate::check_index_map_each;
 use archive_forms_values::Entry;
@@ -87,8 +86,7 @@ impl<K, V, H> ArchivedIndexMap<K, V, H> {
         requires fits { this.pos + 16 ≤ length this.bytes.now }
         requires range { IsWithin (C.kept context.old) (length this.bytes.now) }
         ensures moves { Moves (C.kept context.old) result (C.kept context.new) }
-        ensures exact { (names : Names) → K.knows names → V.knows names
-            → Checks names this.entry.bytes.now (at this.entry.pos (index_map K.shape V.shape)) (C.kept context.old) result (C.kept context.new) }
+        ensures exact { ChecksMap C.kept K.Portable V.Portable this.entry context.old result context.new }
     {
         let bytes = this.bytes;
         check_index_map_each::<Entry<K, V>, C, _>(

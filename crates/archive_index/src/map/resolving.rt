@@ -1,10 +1,6 @@
 //! Writes the own bytes of an index map, once the positions of its controls and its entries are known.
-ghost use Rattle.std.specs.Prelude.{◌≡◌, ◌+◌, ◌^◌, ◌<◌, ◌≤◌, ◌++◌, ◌⊎◌, length, MatchResult};
-ghost use Rattle.archive_shape.specs.Bytes.{overwrite};
-ghost use Rattle.archive_shape_layout.specs.Edit.{Spares};
-ghost use Rattle.archive_forms_laws.specs.Links.{link_bytes, LinkFits, LinkRefused};
-ghost use Rattle.archive_hash_maps.specs.Resolving.{own_bytes, IsWithinLimits, IsRefused};
-ghost use Rattle.archive_shape_layout.specs.Shape.Shape.{table};
+ghost use Rattle.std.specs.Prelude.{◌+◌, ◌^◌, ◌<◌, ◌≤◌, length};
+ghost use Rattle.archive_index.specs.Calls.Writing.{ResolvesMap};
 
 use crate::map::ArchivedIndexMap;
 use archive_forms_values::emplace_link;
@@ -28,11 +24,7 @@ impl<K: Portable, V: Portable, H> ArchivedIndexMap<K, V, H> {
     ) -> Result<(), Error>
         requires room { out.start + 16 ≤ length out.out.now }
         requires stands { out.pos + 16 < 2 ^ 64 }
-        ensures { MatchResult result
-            (λ _. IsWithinLimits len load_factor resolver.table.pos out.entry.pos × LinkFits resolver.entries (out.entry.pos + 12)
-            × (out.exit.0.now ≡ overwrite out.entry.out.now out.entry.start (own_bytes len load_factor resolver.table.pos out.entry.pos ++ link_bytes resolver.entries (out.entry.pos + 12))))
-            (λ e. (IsRefused len load_factor resolver.table.pos out.entry.pos e ⊎ LinkRefused resolver.entries (out.entry.pos + 12) e)
-            × Spares out.entry.out.now out.exit.0.now out.entry.start 16) }
+        ensures { ResolvesMap len load_factor resolver out.entry out.exit result }
     {
         let Place {
             out,

@@ -1,12 +1,10 @@
 //! Values of archived index maps that may be edited.
-ghost use denote.Ref.{Bor};
-ghost use Rattle.std.specs.Prelude.{◌≡◌, ℕ, List, length, Option, Some, None, IfSome, MatchOption};
-ghost use Rattle.std.specs.Option.{option_map};
+ghost use Rattle.std.specs.Prelude.{◌≡◌, length, IfSome};
 ghost use Rattle.archive_forms_values.specs.Parts.{HasValue};
-ghost use Rattle.archive_hash_maps.specs.Maps.{HashesTo, KeySays, query_calls, key_at};
-ghost use Rattle.archive_forms_values.specs.Loans.{IsLent};
-ghost use Rattle.archive_index.specs.Maps.{IndexMap, IsMapAt, HasMapAt, entry_position};
-ghost use Rattle.archive_index.specs.Lookups.{LooksUpEntry, value_position_of};
+ghost use Rattle.archive_index.specs.Maps.{HasMapAt};
+ghost use Rattle.archive_hash_maps.specs.Calls.Seals.{HasBufferOf};
+ghost use Rattle.archive_hash_maps.specs.Calls.Tables.{MayCallWhereLent};
+ghost use Rattle.archive_index.specs.Calls.Lending.{LendsFull, LendsEntry, SealsValue, LendsFullBy, LendsEntryBy, SealsValueBy};
 
 use crate::map::ArchivedIndexMap;
 use crate::map::search::{entry_at, search_key, search_with};
@@ -28,12 +26,7 @@ impl<K, V: Portable, H: Hasher + Default + Drop> ArchivedIndexMap<K, V, H> {
         requires has { HasMapAt K.shape V.shape K.knows V.knows this.bytes.now this.pos }
         ensures there { IfSome result (λ r. HasValue K.shape K.knows r.1.bytes.now r.1.pos) }
         ensures own { IfSome result (λ r. length r.2.own.now ≡ V.SIZE) }
-        ensures answers { (m : IndexMap) → IsMapAt this.entry.bytes.now K.shape V.shape this.entry.pos m
-            → (found : Option ℕ)
-            × LooksUpEntry this.entry.bytes.now K.shape V.shape m (HashesTo H.is_default H.write H.finish (Q.hash_input query.now)) (KeySays K.key_of K.order this.entry.bytes.now query.now) (λ i. i) found
-            × MatchOption result
-            (found ≡ None)
-            (λ r. (found ≡ Some r.0) × IsLent V.SIZE this.entry.bytes.now (entry_position K.shape V.shape m r.0) (value_position_of K.shape V.shape m r.0) r.1 r.2) }
+        ensures answers { LendsFull K.HashedKey V.Portable H.Default H.Hasher Q.Hash query.now this.entry result }
     {
         let Seal { bytes, pos, .. } = this;
         match search_key::<Q, K, V, H>(bytes, pos, query) {
@@ -58,12 +51,7 @@ impl<K, V: Portable, H: Hasher + Default + Drop> ArchivedIndexMap<K, V, H> {
         requires has { HasMapAt K.shape V.shape K.knows V.knows this.bytes.now this.pos }
         ensures there { IfSome result (λ r. HasValue K.shape K.knows r.0.bytes.now r.0.pos) }
         ensures own { IfSome result (λ r. length r.1.own.now ≡ V.SIZE) }
-        ensures answers { (m : IndexMap) → IsMapAt this.entry.bytes.now K.shape V.shape this.entry.pos m
-            → (found : Option ℕ)
-            × LooksUpEntry this.entry.bytes.now K.shape V.shape m (HashesTo H.is_default H.write H.finish (Q.hash_input query.now)) (KeySays K.key_of K.order this.entry.bytes.now query.now) (λ i. i) found
-            × MatchOption result
-            (found ≡ None)
-            (λ r. (i : ℕ) × (found ≡ Some i) × IsLent V.SIZE this.entry.bytes.now (entry_position K.shape V.shape m i) (value_position_of K.shape V.shape m i) r.0 r.1) }
+        ensures answers { LendsEntry K.HashedKey V.Portable H.Default H.Hasher Q.Hash query.now this.entry result }
     {
         let Seal { bytes, pos, .. } = this;
         match search_key::<Q, K, V, H>(bytes, pos, query) {
@@ -84,10 +72,9 @@ impl<K, V: Portable, H: Hasher + Default + Drop> ArchivedIndexMap<K, V, H> {
     where
         K: HashedKey<Q>,
         requires has { HasMapAt K.shape V.shape K.knows V.knows this.bytes.now this.pos }
-        ensures whole { IfSome result (λ r. (r.bytes.ghost_name ≡ this.entry.bytes.ghost_name) × (r.bytes.now ≡ this.entry.bytes.now)) }
+        ensures whole { IfSome result (HasBufferOf this.entry) }
         ensures there { IfSome result (λ r. HasValue V.shape V.knows r.bytes.now r.pos) }
-        ensures answers { (m : IndexMap) → IsMapAt this.entry.bytes.now K.shape V.shape this.entry.pos m
-            → LooksUpEntry this.entry.bytes.now K.shape V.shape m (HashesTo H.is_default H.write H.finish (Q.hash_input query.now)) (KeySays K.key_of K.order this.entry.bytes.now query.now) (value_position_of K.shape V.shape m) (option_map (λ r. r.pos) result) }
+        ensures answers { SealsValue K.HashedKey V.shape H.Default H.Hasher Q.Hash query.now this.entry result }
     {
         let Seal { bytes, pos, .. } = this;
         match search_key::<Q, K, V, H>(bytes, pos, query) {
@@ -110,15 +97,10 @@ impl<K: Portable, V: Portable, H: Hasher + Default + Drop> ArchivedIndexMap<K, V
         accepts: &F,
     ) -> Option<(usize, Ref<'a, K>, OwnSeal<'a, V>)>
         requires has { HasMapAt K.shape V.shape K.knows V.knows this.bytes.now this.pos }
-        requires callable { (lent : Bor (List ℕ)) (at : ℕ) → lent.now ≡ this.bytes.now → HasValue K.shape K.knows lent.now at → F.pre accepts.now query (key_at lent at) }
+        requires callable { MayCallWhereLent K.shape K.knows this.bytes.now (F.pre accepts.now query) }
         ensures there { IfSome result (λ r. HasValue K.shape K.knows r.1.bytes.now r.1.pos) }
         ensures own { IfSome result (λ r. length r.2.own.now ≡ V.SIZE) }
-        ensures answers { (m : IndexMap) → IsMapAt this.entry.bytes.now K.shape V.shape this.entry.pos m
-            → (lent : Bor (List ℕ)) × (lent.now ≡ this.entry.bytes.now) × (found : Option ℕ)
-            × LooksUpEntry this.entry.bytes.now K.shape V.shape m (HashesTo H.is_default H.write H.finish (Q.hash_input query.now)) (query_calls F.post accepts.now query.entry lent) (λ i. i) found
-            × MatchOption result
-            (found ≡ None)
-            (λ r. (found ≡ Some r.0) × IsLent V.SIZE this.entry.bytes.now (entry_position K.shape V.shape m r.0) (value_position_of K.shape V.shape m r.0) r.1 r.2) }
+        ensures answers { LendsFullBy K.shape V.Portable H.Default H.Hasher Q.Hash (F.post accepts.now) query.entry this.entry result }
     {
         let Seal { bytes, pos, .. } = this;
         match search_with::<Q, K, V, H, F>(bytes, pos, query, accepts) {
@@ -139,15 +121,10 @@ impl<K: Portable, V: Portable, H: Hasher + Default + Drop> ArchivedIndexMap<K, V
         accepts: &F,
     ) -> Option<(Ref<'a, K>, OwnSeal<'a, V>)>
         requires has { HasMapAt K.shape V.shape K.knows V.knows this.bytes.now this.pos }
-        requires callable { (lent : Bor (List ℕ)) (at : ℕ) → lent.now ≡ this.bytes.now → HasValue K.shape K.knows lent.now at → F.pre accepts.now query (key_at lent at) }
+        requires callable { MayCallWhereLent K.shape K.knows this.bytes.now (F.pre accepts.now query) }
         ensures there { IfSome result (λ r. HasValue K.shape K.knows r.0.bytes.now r.0.pos) }
         ensures own { IfSome result (λ r. length r.1.own.now ≡ V.SIZE) }
-        ensures answers { (m : IndexMap) → IsMapAt this.entry.bytes.now K.shape V.shape this.entry.pos m
-            → (lent : Bor (List ℕ)) × (lent.now ≡ this.entry.bytes.now) × (found : Option ℕ)
-            × LooksUpEntry this.entry.bytes.now K.shape V.shape m (HashesTo H.is_default H.write H.finish (Q.hash_input query.now)) (query_calls F.post accepts.now query.entry lent) (λ i. i) found
-            × MatchOption result
-            (found ≡ None)
-            (λ r. (i : ℕ) × (found ≡ Some i) × IsLent V.SIZE this.entry.bytes.now (entry_position K.shape V.shape m i) (value_position_of K.shape V.shape m i) r.0 r.1) }
+        ensures answers { LendsEntryBy K.shape V.Portable H.Default H.Hasher Q.Hash (F.post accepts.now) query.entry this.entry result }
     {
         let Seal { bytes, pos, .. } = this;
         match search_with::<Q, K, V, H, F>(bytes, pos, query, accepts) {
@@ -168,12 +145,10 @@ impl<K: Portable, V: Portable, H: Hasher + Default + Drop> ArchivedIndexMap<K, V
         accepts: &F,
     ) -> Option<Seal<'a, V>>
         requires has { HasMapAt K.shape V.shape K.knows V.knows this.bytes.now this.pos }
-        requires callable { (lent : Bor (List ℕ)) (at : ℕ) → lent.now ≡ this.bytes.now → HasValue K.shape K.knows lent.now at → F.pre accepts.now query (key_at lent at) }
-        ensures whole { IfSome result (λ r. (r.bytes.ghost_name ≡ this.entry.bytes.ghost_name) × (r.bytes.now ≡ this.entry.bytes.now)) }
+        requires callable { MayCallWhereLent K.shape K.knows this.bytes.now (F.pre accepts.now query) }
+        ensures whole { IfSome result (HasBufferOf this.entry) }
         ensures there { IfSome result (λ r. HasValue V.shape V.knows r.bytes.now r.pos) }
-        ensures answers { (m : IndexMap) → IsMapAt this.entry.bytes.now K.shape V.shape this.entry.pos m
-            → (lent : Bor (List ℕ)) × (lent.now ≡ this.entry.bytes.now)
-            × LooksUpEntry this.entry.bytes.now K.shape V.shape m (HashesTo H.is_default H.write H.finish (Q.hash_input query.now)) (query_calls F.post accepts.now query.entry lent) (value_position_of K.shape V.shape m) (option_map (λ r. r.pos) result) }
+        ensures answers { SealsValueBy K.shape V.Portable H.Default H.Hasher Q.Hash (F.post accepts.now) query.entry this.entry result }
     {
         let Seal { bytes, pos, .. } = this;
         match search_with::<Q, K, V, H, F>(bytes, pos, query, accepts) {

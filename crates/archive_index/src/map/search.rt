@@ -1,12 +1,11 @@
 //! Look-ups of the numbers of entries.
-ghost use Rattle.std.specs.Prelude.{◌≡◌, ℕ, ◌+◌, ◌*◌, ◌^◌, ◌<◌, ◌≤◌, length, IfSome};
-ghost use Rattle.archive_shape_layout.specs.Bytes.{word_at};
-ghost use Rattle.archive_shape_layout.specs.Shape.{size_of};
+ghost use Rattle.std.specs.Prelude.{◌≡◌, ◌+◌, ◌<◌, ◌≤◌, length};
 ghost use Rattle.archive_forms_values.specs.Tuples.{tuple2};
 ghost use Rattle.archive_forms_values.specs.Parts.{HasValue, both};
-ghost use Rattle.archive_hash_maps.specs.Maps.{HashesTo, KeySays, query_calls, key_at, entry_at};
-ghost use Rattle.archive_index.specs.Maps.{IndexMap, IsMapAt, HasMapAt, count_of, entry_position};
-ghost use Rattle.archive_index.specs.Lookups.{AnswersEntry, LooksUpEntry};
+ghost use Rattle.archive_hash_maps.specs.Maps.{KeySays, key_at, entry_at};
+ghost use Rattle.archive_index.specs.Maps.{IndexMap, IsMapAt, HasMapAt, count_of};
+ghost use Rattle.archive_hash_maps.specs.Calls.Tables.{MayCall};
+ghost use Rattle.archive_index.specs.Calls.Search.{named_position, FitsNamed, IsPositionOf, MayCallAtEntries, IsNumberIn, FindsEntry, SearchesKey, SearchesBy};
 
 use crate::map::entries::entries_at;
 use archive_forms_values::Entry;
@@ -18,8 +17,8 @@ use std::hash::{Hash, Hasher};
 /// Returns the position of the entry whose number is the item at `at`. The entries begin at `start`.
 fn named_entry<K: Portable, V: Portable>(bytes: &[u8], start: usize, at: usize) -> usize
     requires room { at + 4 ≤ length bytes.now }
-    requires fits { start + word_at bytes.now at * size_of (tuple2 K.shape V.shape) + size_of (tuple2 K.shape V.shape) < 2 ^ 64 }
-    ensures { result ≡ start + word_at bytes.entry.now at * size_of (tuple2 K.shape V.shape) }
+    requires fits { FitsNamed K.shape V.shape bytes.now start at }
+    ensures { result ≡ named_position K.shape V.shape bytes.entry.now start at }
 {
     start + number_at(bytes, at) * Entry::<K, V>::SIZE
 }
@@ -34,17 +33,16 @@ pub fn search_entries<K: Portable, V: Portable, G: Scan, F: Fn(usize) -> bool>(
     accepts: &F,
 ) -> (Option<usize>, usize)
     requires has { HasMapAt K.shape V.shape K.knows V.knows bytes.now pos }
-    requires callable { (m : IndexMap) → IsMapAt bytes.now K.shape V.shape pos m → (i : ℕ) → i < count_of m → F.pre accepts.now (entry_position K.shape V.shape m i) }
-    ensures within { (m : IndexMap) → IsMapAt bytes.entry.now K.shape V.shape pos m → IfSome result.0 (λ i. i < count_of m) }
-    ensures answers { (m : IndexMap) → IsMapAt bytes.entry.now K.shape V.shape pos m
-        → AnswersEntry bytes.entry.now K.shape V.shape m (F.post accepts.now) (λ i. i) hash result.0 result.1 }
+    requires callable { MayCallAtEntries K.shape V.shape (F.pre accepts.now) bytes.now pos }
+    ensures within { IsNumberIn K.shape V.shape bytes.entry.now pos result.0 }
+    ensures answers { FindsEntry K.shape V.shape (F.post accepts.now) bytes.entry.now pos hash result }
 {
     let (start, _) = entries_at::<K, V>(bytes, pos);
     let accepts_at = |at: usize| -> bool
         requires room { at + 4 ≤ length bytes.now }
-        requires fits { start + word_at bytes.now at * size_of (tuple2 K.shape V.shape) + size_of (tuple2 K.shape V.shape) < 2 ^ 64 }
-        requires item { F.pre accepts.now (start + word_at bytes.now at * size_of (tuple2 K.shape V.shape)) }
-        ensures { F.post accepts.entry.now (start + word_at bytes.entry.now at * size_of (tuple2 K.shape V.shape)) result }
+        requires fits { FitsNamed K.shape V.shape bytes.now start at }
+        requires item { F.pre accepts.now (named_position K.shape V.shape bytes.now start at) }
+        ensures { F.post accepts.entry.now (named_position K.shape V.shape bytes.entry.now start at) result }
     { accepts(named_entry::<K, V>(bytes, start, at)) };
     let (found, strides) = search_table::<ArchivedU32, G, _>(bytes, pos, hash, &accepts_at);
     match found {
@@ -60,9 +58,9 @@ pub(crate) fn search_key<Q: Hash, K: HashedKey<Q>, V: Portable, H: Hasher + Defa
     query: &Q,
 ) -> Option<usize>
     requires has { HasMapAt K.shape V.shape K.knows V.knows bytes.now pos }
-    ensures within { (m : IndexMap) → IsMapAt bytes.entry.now K.shape V.shape pos m → IfSome result (λ i. i < count_of m) }
-    ensures answers { (m : IndexMap) → IsMapAt bytes.entry.now K.shape V.shape pos m
-        → LooksUpEntry bytes.entry.now K.shape V.shape m (HashesTo H.is_default H.write H.finish (Q.hash_input query.now)) (KeySays K.key_of K.order bytes.entry.now query.now) (λ i. i) result }
+    ensures within { IsNumberIn K.shape V.shape bytes.entry.now pos result }
+    ensures answers { SearchesKey K.HashedKey V.shape H.Default H.Hasher Q.Hash query.now bytes.entry.now
+        pos result }
 {
     let accepts = |at: usize| -> bool
         requires { K.is_key bytes.now at }
@@ -81,10 +79,10 @@ pub(crate) fn search_with<
     F: Fn(&Q, Ref<'_, K>) -> bool,
 >(bytes: &[u8], pos: usize, query: &Q, accepts: &F) -> Option<usize>
     requires has { HasMapAt K.shape V.shape K.knows V.knows bytes.now pos }
-    requires callable { (at : ℕ) → HasValue K.shape K.knows bytes.now at → F.pre accepts.now query (key_at bytes at) }
-    ensures within { (m : IndexMap) → IsMapAt bytes.entry.now K.shape V.shape pos m → IfSome result (λ i. i < count_of m) }
-    ensures answers { (m : IndexMap) → IsMapAt bytes.entry.now K.shape V.shape pos m
-        → LooksUpEntry bytes.entry.now K.shape V.shape m (HashesTo H.is_default H.write H.finish (Q.hash_input query.now)) (query_calls F.post accepts.now query.entry bytes.entry) (λ i. i) result }
+    requires callable { MayCall K.shape K.knows bytes (F.pre accepts.now query) }
+    ensures within { IsNumberIn K.shape V.shape bytes.entry.now pos result }
+    ensures answers { SearchesBy K.shape V.shape H.Default H.Hasher Q.Hash (F.post accepts.now) query.entry
+        bytes.entry pos result }
 {
     let hash = hash_value::<Q, H>(query);
     let accepts_at = |at: usize| -> bool
@@ -98,7 +96,7 @@ pub(crate) fn search_with<
 pub(crate) fn entry_at<K: Portable, V: Portable>(bytes: &[u8], pos: usize, index: usize) -> usize
     requires has { HasMapAt K.shape V.shape K.knows V.knows bytes.now pos }
     requires within { (m : IndexMap) → IsMapAt bytes.now K.shape V.shape pos m → index < count_of m }
-    ensures stands { (m : IndexMap) → IsMapAt bytes.entry.now K.shape V.shape pos m → result ≡ entry_position K.shape V.shape m index }
+    ensures stands { IsPositionOf K.shape V.shape bytes.entry.now pos index result }
     ensures there { HasValue (tuple2 K.shape V.shape) (both K.knows V.knows) bytes.entry.now result }
 {
     let _len = bytes.len();

@@ -1,13 +1,13 @@
 //! Reads archived index sets back as the lists of their keys.
-ghost use Rattle.std.specs.Prelude.{◌+◌, IfOk, ⊤};
-ghost use Rattle.archive_shape_layout.specs.Shape.{size_of};
+ghost use Rattle.std.specs.Prelude.{IfOk, ⊤};
 ghost use Rattle.archive_forms_values.specs.Tuples.{tuple2};
 ghost use Rattle.archive_forms_values.specs.Parts.{HasValue, both};
-ghost use Rattle.archive_forms.specs.Deserializing.{Deserializes, DeserializesBy};
+ghost use Rattle.archive_forms.specs.Deserializing.{DeserializesBy};
 ghost use Rattle.archive_forms.specs.Reading.{reads_all, reads_in, reads_key};
-ghost use Rattle.archive_forms.specs.Steps.{StepTakes, StepReads};
-ghost use Rattle.archive_hash_maps.specs.Sets.{set_knows};
-ghost use Rattle.archive_index.specs.Sets.{HasSet, set_shape, unit_shape};
+ghost use Rattle.archive_forms.specs.Steps.{StepTakes};
+ghost use Rattle.archive_index.specs.Sets.{HasSet, unit_shape};
+ghost use Rattle.archive_index.specs.Calls.Reading.{StepTakesKey, DeserializesKey, DeserializesSet};
+ghost use Rattle.archive_forms.specs.Calls.Steps.{StepReadsBack};
 
 use crate::map::entries::entries;
 use crate::set::ArchivedIndexSet;
@@ -35,11 +35,9 @@ fn deserialize_key<
 ) -> Result<(K, PhantomData<K::Archived>), Error>
     requires there { HasValue (tuple2 A.shape unit_shape) (both A.knows (λ _. ⊤)) bytes.now pos }
     requires kept { D.is_of deserializer.old bytes.now }
-    requires takes_key { StepTakes F.Fn read_key.now A.shape A.knows D.is_of bytes.now
-        (pos + size_of (tuple2 A.shape unit_shape)) }
-    requires reads_key { StepReads F.Fn read_key.now A.shape A.knows D.is_of bytes.now (λ q. q.0) A.reads }
-    ensures value { DeserializesBy (reads_key A.reads) (tuple2 A.shape unit_shape) (both A.knows (λ _. ⊤))
-        bytes.now pos (λ q. q.0) result }
+    requires takes_key { StepTakesKey F.Fn read_key.now A.ReadBack unit_shape D.is_of bytes.now pos }
+    requires reads_key { StepReadsBack F.Fn read_key.now A.ReadBack D.is_of bytes.now }
+    ensures value { DeserializesKey A.ReadBack bytes.now pos result }
     ensures keeps { IfOk result (λ _. D.is_of deserializer.new bytes.now) }
 {
     read_key(deserializer, pos)
@@ -63,9 +61,8 @@ pub fn deserialize_index_set_each<
     requires there { HasSet A.shape A.knows this }
     requires kept { D.is_of deserializer.old this.bytes.now }
     requires takes_key { StepTakes F.Fn read_key A.shape A.knows D.is_of this.bytes.now this.pos }
-    requires reads_key { StepReads F.Fn read_key A.shape A.knows D.is_of this.bytes.now (λ q. q.0) A.reads }
-    ensures value { Deserializes (reads_in (λ xs. xs.items) (reads_all (reads_key A.reads)))
-        (set_shape A.shape) (set_knows A.knows) this.entry.bytes.now this.entry.pos result }
+    requires reads_key { StepReadsBack F.Fn read_key A.ReadBack D.is_of this.bytes.now }
+    ensures value { DeserializesSet A.ReadBack this.entry result }
     ensures keeps { IfOk result (λ _. D.is_of deserializer.new this.entry.bytes.now) }
 {
     let entries = entries(as_map(this));
@@ -77,11 +74,9 @@ pub fn deserialize_index_set_each<
         |d: &mut D, at: usize| -> Result<(K, PhantomData<K::Archived>), Error>
             requires there { HasValue (tuple2 A.shape unit_shape) (both A.knows (λ _. ⊤)) bytes.now at }
             requires kept { D.is_of d.old bytes.now }
-            requires takes_key { StepTakes F.Fn read_key A.shape A.knows D.is_of bytes.now
-                (at + size_of (tuple2 A.shape unit_shape)) }
-            requires reads_key { StepReads F.Fn read_key A.shape A.knows D.is_of bytes.now (λ q. q.0) A.reads }
-            ensures value { DeserializesBy (reads_key A.reads) (tuple2 A.shape unit_shape)
-                (both A.knows (λ _. ⊤)) bytes.entry.now at (λ q. q.0) result }
+            requires takes_key { StepTakesKey F.Fn read_key A.ReadBack unit_shape D.is_of bytes.now at }
+            requires reads_key { StepReadsBack F.Fn read_key A.ReadBack D.is_of bytes.now }
+            ensures value { DeserializesKey A.ReadBack bytes.entry.now at result }
             ensures keeps { IfOk result (λ _. D.is_of d.new bytes.entry.now) }
         { deserialize_key::<K, A, D, F>(bytes, at, d, &read_key) },
     )

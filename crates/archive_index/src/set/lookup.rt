@@ -1,11 +1,9 @@
 //! Look-ups of keys in archived index sets.
-ghost use Rattle.std.specs.Prelude.{◌≡◌, ℕ, ◌<◌, ◌≤◌, Option, IfSome, MatchOption};
-ghost use Rattle.std.specs.Option.{is_some};
+ghost use Rattle.std.specs.Prelude.{IfSome};
 ghost use Rattle.archive_forms_values.specs.Parts.{HasValue};
-ghost use Rattle.archive_hash_maps.specs.Maps.{HashesTo, KeySays, key_at};
-ghost use Rattle.archive_index.specs.Maps.{IndexMap, count_of, entry_position};
-ghost use Rattle.archive_index.specs.Lookups.{LooksUpEntry};
-ghost use Rattle.archive_index.specs.Sets.{HasSet, IsSet, unit_shape};
+ghost use Rattle.archive_index.specs.Sets.{HasSet};
+ghost use Rattle.archive_index.specs.Calls.Entries.{GetsElementAt};
+ghost use Rattle.archive_index.specs.Calls.Keys.{GetsFullElement, GetsElement, GetsElementIndex, SaysElement};
 
 use crate::map::ArchivedIndexMap;
 use crate::set::ArchivedIndexSet;
@@ -24,8 +22,7 @@ impl<K, H: Hasher + Default + Drop> ArchivedIndexSet<K, H> {
         K: HashedKey<Q>,
         requires has { HasSet K.shape K.knows this }
         ensures there { IfSome result (λ r. HasValue K.shape K.knows r.1.bytes.now r.1.pos) }
-        ensures answers { (m : IndexMap) → IsSet K.shape this.entry m
-            → LooksUpEntry this.entry.bytes.now K.shape unit_shape m (HashesTo H.is_default H.write H.finish (Q.hash_input query.now)) (KeySays K.key_of K.order this.entry.bytes.now query.now) (λ i. (i, key_at this.entry.bytes (entry_position K.shape unit_shape m i))) result }
+        ensures answers { GetsFullElement K.HashedKey H.Default H.Hasher Q.Hash query.now this.entry result }
     {
         match ArchivedIndexMap::get_full(as_map(this), query) {
             Some((index, key, _)) => Some((index, key)),
@@ -39,8 +36,7 @@ impl<K, H: Hasher + Default + Drop> ArchivedIndexSet<K, H> {
         K: HashedKey<Q>,
         requires has { HasSet K.shape K.knows this }
         ensures there { IfSome result (λ r. HasValue K.shape K.knows r.bytes.now r.pos) }
-        ensures answers { (m : IndexMap) → IsSet K.shape this.entry m
-            → LooksUpEntry this.entry.bytes.now K.shape unit_shape m (HashesTo H.is_default H.write H.finish (Q.hash_input query.now)) (KeySays K.key_of K.order this.entry.bytes.now query.now) (λ i. key_at this.entry.bytes (entry_position K.shape unit_shape m i)) result }
+        ensures answers { GetsElement K.HashedKey H.Default H.Hasher Q.Hash query.now this.entry result }
     {
         match ArchivedIndexMap::get_key_value(as_map(this), query) {
             Some((key, _)) => Some(key),
@@ -53,8 +49,7 @@ impl<K, H: Hasher + Default + Drop> ArchivedIndexSet<K, H> {
     where
         K: HashedKey<Q>,
         requires has { HasSet K.shape K.knows this }
-        ensures answers { (m : IndexMap) → IsSet K.shape this.entry m
-            → LooksUpEntry this.entry.bytes.now K.shape unit_shape m (HashesTo H.is_default H.write H.finish (Q.hash_input query.now)) (KeySays K.key_of K.order this.entry.bytes.now query.now) (λ i. i) result }
+        ensures answers { GetsElementIndex K.HashedKey H.Default H.Hasher Q.Hash query.now this.entry result }
     {
         ArchivedIndexMap::get_index_of(as_map(this), query)
     }
@@ -64,9 +59,7 @@ impl<K, H: Hasher + Default + Drop> ArchivedIndexSet<K, H> {
     where
         K: HashedKey<Q>,
         requires has { HasSet K.shape K.knows this }
-        ensures answers { (m : IndexMap) → IsSet K.shape this.entry m
-            → (found : Option ℕ) × (result ≡ is_some found)
-            × LooksUpEntry this.entry.bytes.now K.shape unit_shape m (HashesTo H.is_default H.write H.finish (Q.hash_input query.now)) (KeySays K.key_of K.order this.entry.bytes.now query.now) (λ i. i) found }
+        ensures answers { SaysElement K.HashedKey H.Default H.Hasher Q.Hash query.now this.entry result }
     {
         ArchivedIndexMap::contains_key(as_map(this), query)
     }
@@ -77,9 +70,7 @@ impl<K: Portable, H> ArchivedIndexSet<K, H> {
     pub fn get_index<'a>(this: Ref<'a, ArchivedIndexSet<K, H>>, index: usize) -> Option<Ref<'a, K>>
         requires { HasSet K.shape K.knows this }
         ensures there { IfSome result (λ r. HasValue K.shape K.knows r.bytes.now r.pos) }
-        ensures answers { (m : IndexMap) → IsSet K.shape this.entry m → MatchOption result
-            (count_of m ≤ index)
-            (λ r. (index < count_of m) × (r ≡ key_at this.entry.bytes (entry_position K.shape unit_shape m index))) }
+        ensures answers { GetsElementAt K.shape this.entry index result }
     {
         match ArchivedIndexMap::get_index(as_map(this), index) {
             Some((key, _)) => Some(key),

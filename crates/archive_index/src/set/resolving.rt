@@ -1,9 +1,6 @@
 //! Writes the own bytes of an index set, once the positions of its controls and its keys are known.
-ghost use Rattle.std.specs.Prelude.{◌≡◌, ◌+◌, ◌^◌, ◌<◌, ◌≤◌, ◌++◌, ◌⊎◌, length, MatchResult};
-ghost use Rattle.archive_shape.specs.Bytes.{overwrite};
-ghost use Rattle.archive_shape_layout.specs.Edit.{Spares};
-ghost use Rattle.archive_forms_laws.specs.Links.{link_bytes, LinkFits, LinkRefused};
-ghost use Rattle.archive_hash_maps.specs.Resolving.{own_bytes, IsWithinLimits, IsRefused};
+ghost use Rattle.std.specs.Prelude.{◌+◌, ◌^◌, ◌<◌, ◌≤◌, length};
+ghost use Rattle.archive_index.specs.Calls.Writing.{ResolvesMap};
 
 use crate::map::ArchivedIndexMap;
 use crate::set::ArchivedIndexSet;
@@ -30,11 +27,7 @@ impl<K: Portable, H> ArchivedIndexSet<K, H> {
     ) -> Result<(), Error>
         requires room { out.start + 16 ≤ length out.out.now }
         requires stands { out.pos + 16 < 2 ^ 64 }
-        ensures { MatchResult result
-            (λ _. IsWithinLimits len load_factor resolver.map.table.pos out.entry.pos × LinkFits resolver.map.entries (out.entry.pos + 12)
-            × (out.exit.0.now ≡ overwrite out.entry.out.now out.entry.start (own_bytes len load_factor resolver.map.table.pos out.entry.pos ++ link_bytes resolver.map.entries (out.entry.pos + 12))))
-            (λ e. (IsRefused len load_factor resolver.map.table.pos out.entry.pos e ⊎ LinkRefused resolver.map.entries (out.entry.pos + 12) e)
-            × Spares out.entry.out.now out.exit.0.now out.entry.start 16) }
+        ensures { ResolvesMap len load_factor resolver.map out.entry out.exit result }
     {
         let Place {
             out,

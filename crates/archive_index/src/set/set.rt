@@ -1,17 +1,16 @@
 //! The type of archived index sets, its layout, its check, its length and its keys.
-ghost use Rattle.std.specs.Prelude.{◌≡◌, ◌++◌, ◌↔◌, ◌+◌, ◌≤◌, [], length, map, All, IsTrue};
+ghost use Rattle.std.specs.Prelude.{◌≡◌, ◌++◌, ◌↔◌, ◌+◌, ◌≤◌, [], length, All, IsTrue};
 ghost use Rattle.std.proofs.Common.{refl, lit<, lit≤};
-ghost use Rattle.archive_shape_layout.specs.Content.{Names};
-ghost use Rattle.archive_shape_layout.specs.Content.Part.{at};
-ghost use Rattle.archive_shape.specs.Checks.{Checks, Moves};
+ghost use Rattle.archive_shape.specs.Checks.{Moves};
 ghost use Rattle.archive_shape.specs.Kept.{IsWithin};
 ghost use Rattle.archive_shape_layout.proofs.Naming.{first_types};
 ghost use Rattle.archive_forms_values.specs.Parts.{HasValue};
 ghost use Rattle.archive_hash_maps.specs.Places.{item_at};
-ghost use Rattle.archive_hash_maps.specs.Maps.{key_at};
 ghost use Rattle.archive_hash_maps.specs.Sets.{set_knows};
 ghost use Rattle.archive_index.specs.Maps.{IndexMap, count_of};
-ghost use Rattle.archive_index.specs.Sets.{HasSet, IsSet, key_positions, set_shape};
+ghost use Rattle.archive_index.specs.Sets.{HasSet, IsSet, set_shape};
+ghost use Rattle.archive_index.specs.Calls.Checking.{ChecksSet};
+ghost use Rattle.archive_index.specs.Calls.Entries.{ListsElements};
 
 use crate::map::{ArchivedIndexMap, Keys};
 use archive_shape::{ArchiveContext, CheckBytes, Error, NoUndef, Portable, Ref, Shape};
@@ -75,8 +74,7 @@ impl<K, H> ArchivedIndexSet<K, H> {
         requires fits { this.pos + 16 ≤ length this.bytes.now }
         requires range { IsWithin (C.kept context.old) (length this.bytes.now) }
         ensures moves { Moves (C.kept context.old) result (C.kept context.new) }
-        ensures exact { (names : Names) → K.knows names
-            → Checks names this.entry.bytes.now (at this.entry.pos (set_shape K.shape)) (C.kept context.old) result (C.kept context.new) }
+        ensures exact { ChecksSet C.kept K.Portable this.entry context.old result context.new }
     {
         ArchivedIndexMap::verify(as_map(this), alloc, context)
     }
@@ -112,8 +110,7 @@ impl<K: Portable, H> ArchivedIndexSet<K, H> {
     pub fn iter<'a>(this: Ref<'a, ArchivedIndexSet<K, H>>) -> Keys<'a, K, ()>
         requires { HasSet K.shape K.knows this }
         ensures there { All (λ r. HasValue K.shape K.knows r.bytes.now r.pos) result }
-        ensures keys { (m : IndexMap) → IsSet K.shape this.entry m
-            → result ≡ map (key_at this.entry.bytes) (key_positions K.shape m) }
+        ensures keys { ListsElements K.shape this.entry result }
     {
         ArchivedIndexMap::keys(as_map(this))
     }

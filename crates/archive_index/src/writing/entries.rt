@@ -1,10 +1,9 @@
 //! Writes pairs of a key and a value as an index map, where the values need not be archived by `Archive`.
 ghost use Rattle.std.specs.Prelude.{◌≡◌, ◌-◌, ◌^◌, ◌<◌, All, map};
-ghost use Rattle.archive_forms_laws.specs.Fields.{tuple2_spelling};
-ghost use Rattle.archive_forms_laws.specs.Serializing.{HasState, Serializes, SerializesBy};
+ghost use Rattle.archive_forms_laws.specs.Serializing.{HasState};
 ghost use Rattle.archive_forms_writing.specs.Steps.{StepTakes, StepWrites};
 ghost use Rattle.archive_hash_probing.specs.Inputs.{input_hash};
-ghost use Rattle.archive_hash_writing.specs.IndexResolvers.{pairs_spelling};
+ghost use Rattle.archive_index.specs.Calls.Writing.{SerializesPair, SerializesPairs};
 
 use crate::writing::hashed::serialize_hashed_map;
 use crate::writing::pair_with::PairWith;
@@ -39,9 +38,8 @@ fn serialize_pair<
     requires taken { C.takes step.now with.now pair.now }
     requires room { S.failures serializer.old < 2 ^ 64 - 1 }
     requires state { HasState S.pos S.known serializer.old }
-    ensures { SerializesBy (λ q. q.0)
-        (tuple2_spelling K.Archived.shape K.spelling A.Archived.shape (A.spelling with.now)) S.Writer pair.now
-        serializer.old serializer.new result }
+    ensures { SerializesPair K.Archived.shape K.spelling A.Archived.shape (A.spelling with.now)
+        S.Writer pair.now serializer.old serializer.new result }
 {
     match step.serialize_entry(with, &pair.0, &pair.1, serializer) {
         Ok(done) => Ok((done, PhantomData)),
@@ -60,7 +58,7 @@ fn serialize_pairs_each<
     requires room { S.failures serializer.old < 2 ^ 64 - 1 }
     requires state { HasState S.pos S.known serializer.old }
     requires takes { All (C.takes step.now with.now) entries.now }
-    ensures { Serializes (pairs_spelling (λ k. input_hash (K.hash_input k)) K.Archived.shape A.Archived.shape K.spelling (A.spelling with.now))
+    ensures { SerializesPairs K.Hash K.Archived.shape A.Archived.shape K.spelling (A.spelling with.now)
         S.Writer entries.now serializer.old serializer.new result }
 {
     let hashes = match hash_items(
@@ -91,8 +89,7 @@ fn serialize_pairs_each<
             requires taken { C.takes step.now with.now pair.now }
             requires room { S.failures s.old < 2 ^ 64 - 1 }
             requires state { HasState S.pos S.known s.old }
-            ensures { SerializesBy (λ q. q.0)
-                (tuple2_spelling K.Archived.shape K.spelling A.Archived.shape (A.spelling with.entry.now))
+            ensures { SerializesPair K.Archived.shape K.spelling A.Archived.shape (A.spelling with.entry.now)
                 S.Writer pair.now s.old s.new result }
         { serialize_pair(with, pair, s, step) },
     )
@@ -122,7 +119,7 @@ pub fn serialize_entries_with_each<
     requires writes_key { StepWrites F.Fn (λ q. q.0) K.spelling S.Writer key_step }
     requires takes_value { StepTakes G.Fn S.Writer value_step (map (λ e. e.1) entries.now) }
     requires writes_value { StepWrites G.Fn (λ q. q.0) (A.spelling with.now) S.Writer value_step }
-    ensures { Serializes (pairs_spelling (λ k. input_hash (K.hash_input k)) K.Archived.shape A.Archived.shape K.spelling (A.spelling with.now))
+    ensures { SerializesPairs K.Hash K.Archived.shape A.Archived.shape K.spelling (A.spelling with.now)
         S.Writer entries.now serializer.old serializer.new result }
 {
     let step = EntryParts {

@@ -1,12 +1,10 @@
 //! Writes index maps of the keys and values that an iterator returns.
 ghost use Rattle.std.specs.Prelude.{◌≡◌, ◌-◌, ◌^◌, ◌<◌};
-ghost use Rattle.std.specs.Iterator.{Drains, IsFinite, IsFiniteIterable};
-ghost use Rattle.std.specs.Map.Iter.{deref_pair};
-ghost use Rattle.archive_forms_writing.specs.Entries.{entry_spelling};
-ghost use Rattle.archive_forms_laws.specs.Serializing.{HasState, SerializesBy};
-ghost use Rattle.archive_forms_laws.specs.Taking.{GivesAs};
+ghost use Rattle.std.specs.Iterator.{IsFinite, IsFiniteIterable};
+ghost use Rattle.archive_forms_laws.specs.Serializing.{HasState};
 ghost use Rattle.archive_hash_probing.specs.Inputs.{input_hash};
-ghost use Rattle.archive_index.specs.Written.{WritesPairs};
+ghost use Rattle.archive_index.specs.Calls.Writing.{WritesGivenMap, WritesCollectedMap};
+ghost use Rattle.archive_hash.specs.Calls.Entries.{SerializesEntry};
 
 use crate::map::ArchivedIndexMap;
 use crate::writing::iterators::serialize_from_iter_scan_each;
@@ -35,9 +33,8 @@ fn serialize_given_pairs<
     requires calls { J.can_next pairs × IsFinite (J.remaining pairs) }
     requires room { S.failures serializer.old < 2 ^ 64 - 1 }
     requires state { HasState S.pos S.known serializer.old }
-    ensures { WritesPairs (Drains (GivesAs deref_pair J.next_gives) pairs)
-        (λ k. input_hash (K.hash_input k)) load_factor K.Archived.shape V.Archived.shape K.spelling V.spelling
-        S.Writer len serializer.old serializer.new result }
+    ensures { WritesGivenMap J.next_gives pairs K.Hash load_factor K.Archived.shape V.Archived.shape
+        K.spelling V.spelling S.Writer len serializer.old serializer.new result }
 {
     let entries = Entries {
         pairs,
@@ -60,8 +57,7 @@ fn serialize_given_pairs<
         >
             requires room { S.failures s.old < 2 ^ 64 - 1 }
             requires state { HasState S.pos S.known s.old }
-            ensures { SerializesBy (λ q. q.0)
-                (entry_spelling K.Archived.shape K.spelling V.Archived.shape V.spelling)
+            ensures { SerializesEntry K.Archived.shape K.spelling V.Archived.shape V.spelling
                 S.Writer entry.now s.old s.new result }
         { serialize_element(entry, s) },
     )
@@ -91,9 +87,8 @@ impl<K: Portable, V: Portable, H> ArchivedIndexMap<K, V, H> {
         requires state { HasState S.pos S.known serializer.old }
         requires ends { IsFiniteIterable I.into_iter_gives I.IntoIter.can_next
             I.IntoIter.remaining entries }
-        ensures { WritesPairs (λ es. (it : I.IntoIter) × I.into_iter_gives entries it
-            × Drains (GivesAs deref_pair I.IntoIter.next_gives) it es)
-            (λ k. input_hash (A.hash_input k)) load_factor K.shape V.shape A.spelling B.spelling S.Writer len serializer.old serializer.new result }
+        ensures { WritesCollectedMap I.into_iter_gives I.IntoIter.next_gives entries A.Hash load_factor
+            K.shape V.shape A.spelling B.spelling S.Writer len serializer.old serializer.new result }
     {
         let pairs = entries.into_iter();
         serialize_given_pairs::<S, A, B, I::IntoIter>(len, pairs, load_factor, serializer)

@@ -1,10 +1,11 @@
 //! Writes index maps of the entries that an iterator returns.
-ghost use Rattle.std.specs.Prelude.{◌-◌, ◌^◌, ◌<◌, List};
-ghost use Rattle.std.specs.Fn.{FnReturnsAt};
-ghost use Rattle.std.specs.Iterator.{Drains, IsFiniteIterable};
+ghost use Rattle.std.specs.Prelude.{◌-◌, ◌^◌, ◌<◌};
+ghost use Rattle.std.specs.Iterator.{IsFiniteIterable};
 ghost use Rattle.archive_forms_laws.specs.Serializing.{HasState};
-ghost use Rattle.archive_forms_writing.specs.Steps.{IsElement, StepTakes, StepWrites};
-ghost use Rattle.archive_index.specs.Written.{WritesMap};
+ghost use Rattle.archive_forms_writing.specs.Calls.Iterating.{StepTakesItems};
+ghost use Rattle.archive_forms_writing.specs.Steps.{StepWrites};
+ghost use Rattle.archive_hash_writing.specs.Calls.{MayHashItems};
+ghost use Rattle.archive_index.specs.Calls.Writing.{WritesItemsMap};
 
 use crate::writing::hashed::serialize_hashed_map;
 use archive_forms_writing::{Archive, ByArchive, collect_items};
@@ -44,14 +45,11 @@ pub fn serialize_from_iter_scan_each<
     requires room { S.failures serializer.old < 2 ^ 64 - 1 }
     requires state { HasState S.pos S.known serializer.old }
     requires ends { IsFiniteIterable I.into_iter_gives I.IntoIter.can_next I.IntoIter.remaining iter }
-    requires takes { (it : I.IntoIter) (xs : List T) → I.into_iter_gives iter it
-        → Drains I.IntoIter.next_gives it xs → StepTakes F.Fn S.Writer step xs }
+    requires takes { StepTakesItems I.into_iter_gives I.IntoIter.next_gives F.Fn S.Writer step iter }
     requires writes { StepWrites F.Fn (λ q. q.0) T.spelling S.Writer step }
-    requires hashes { (it : I.IntoIter) (xs : List T) → I.into_iter_gives iter it
-        → Drains I.IntoIter.next_gives it xs → (x : _) → IsElement xs x.now → H.pre hash x }
-    ensures { WritesMap (λ xs. (it : I.IntoIter) × I.into_iter_gives iter it
-        × Drains I.IntoIter.next_gives it xs) load_factor T.Archived.shape T.spelling S.Writer
-        (λ x h. FnReturnsAt H.Fn hash x h) len serializer.old serializer.new result }
+    requires hashes { MayHashItems I.into_iter_gives I.IntoIter.next_gives iter (H.pre hash) }
+    ensures { WritesItemsMap I.into_iter_gives I.IntoIter.next_gives iter load_factor T.Archived.shape T.spelling
+        S.Writer H.Fn hash len serializer.old serializer.new result }
 {
     if load_factor.0 == 0 || load_factor.0 > load_factor.1 {
         return Err(Error::InvalidLoadFactor);

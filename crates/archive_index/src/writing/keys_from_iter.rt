@@ -1,14 +1,10 @@
 //! Writes index sets of the keys that an iterator returns.
 ghost use Rattle.std.specs.Prelude.{◌≡◌, ◌-◌, ◌^◌, ◌<◌};
-ghost use Rattle.std.specs.Iterator.{Drains, IsFinite, IsFiniteIterable};
-ghost use Rattle.archive_forms_writing.specs.Entries.{entry_spelling};
-ghost use Rattle.archive_forms_laws.specs.Fields.{unit_spelling};
-ghost use Rattle.archive_forms_laws.specs.Serializing.{HasState, SerializesBy};
-ghost use Rattle.archive_forms_laws.specs.Taking.{GivesAs};
-ghost use Rattle.archive_hash.specs.Given.{key_entry};
+ghost use Rattle.std.specs.Iterator.{IsFinite, IsFiniteIterable};
+ghost use Rattle.archive_forms_laws.specs.Serializing.{HasState};
 ghost use Rattle.archive_hash_probing.specs.Inputs.{input_hash};
-ghost use Rattle.archive_index.specs.Sets.{unit_shape};
-ghost use Rattle.archive_index.specs.Written.{WritesPairs};
+ghost use Rattle.archive_index.specs.Calls.Writing.{WritesGivenSet, WritesCollectedSet};
+ghost use Rattle.archive_hash.specs.Calls.Entries.{SerializesKey};
 
 use crate::set::ArchivedIndexSet;
 use crate::writing::iterators::serialize_from_iter_scan_each;
@@ -36,8 +32,7 @@ fn serialize_given_keys<
     requires calls { J.can_next keys × IsFinite (J.remaining keys) }
     requires room { S.failures serializer.old < 2 ^ 64 - 1 }
     requires state { HasState S.pos S.known serializer.old }
-    ensures { WritesPairs (Drains (GivesAs key_entry J.next_gives) keys)
-        (λ k. input_hash (K.hash_input k)) load_factor K.Archived.shape unit_shape K.spelling unit_spelling
+    ensures { WritesGivenSet J.next_gives keys K.Hash load_factor K.Archived.shape K.spelling
         S.Writer len serializer.old serializer.new result }
 {
     let entries = KeysBesideUnits {
@@ -68,9 +63,7 @@ fn serialize_given_keys<
         >
             requires room { S.failures s.old < 2 ^ 64 - 1 }
             requires state { HasState S.pos S.known s.old }
-            ensures { SerializesBy (λ q. q.0)
-                (entry_spelling K.Archived.shape K.spelling unit_shape unit_spelling)
-                S.Writer entry.now s.old s.new result }
+            ensures { SerializesKey K.Archived.shape K.spelling S.Writer entry.now s.old s.new result }
         { serialize_element(entry, s) },
     )
 }
@@ -95,9 +88,8 @@ impl<K: Portable, H> ArchivedIndexSet<K, H> {
         requires room { S.failures serializer.old < 2 ^ 64 - 1 }
         requires state { HasState S.pos S.known serializer.old }
         requires ends { IsFiniteIterable I.into_iter_gives I.IntoIter.can_next I.IntoIter.remaining keys }
-        ensures { WritesPairs (λ es. (it : I.IntoIter) × I.into_iter_gives keys it
-            × Drains (GivesAs key_entry I.IntoIter.next_gives) it es)
-            (λ k. input_hash (A.hash_input k)) load_factor K.shape unit_shape A.spelling unit_spelling S.Writer len serializer.old serializer.new result }
+        ensures { WritesCollectedSet I.into_iter_gives I.IntoIter.next_gives keys A.Hash load_factor
+            K.shape A.spelling S.Writer len serializer.old serializer.new result }
     {
         let keys = keys.into_iter();
         serialize_given_keys::<S, A, I::IntoIter>(len, keys, load_factor, serializer)

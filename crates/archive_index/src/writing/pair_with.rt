@@ -1,9 +1,8 @@
 //! What archives pairs of a key and a value, whose values are archived by something else than `Archive`.
-ghost use Rattle.archive_forms_values.specs.Tuples.{tuple2};
 ghost use Rattle.archive_forms_laws.specs.Fields.{tuple2_spelling};
-ghost use Rattle.archive_forms_laws.specs.Serializing.{CanResolve, Resolves};
 ghost use Rattle.archive_forms_laws.proofs.Fields.{tuple2_spells};
 ghost use Rattle.archive_forms_laws.proofs.Views.{known_spells};
+ghost use Rattle.archive_forms_writing.specs.Calls.Resolving.{CanResolveTuple2, ResolvesTuple2};
 
 use archive_forms_values::Entry;
 use archive_forms_writing::{Archive, ArchiveWith, EntryAdapter, EntryResolver};
@@ -29,11 +28,10 @@ impl<'a, K: Archive, V, A: ArchiveWith<V>> ArchiveWith<(K, V)> for PairWith<'a, 
         resolver: (K::Resolver, A::Resolver),
         out: Place<'_, Entry<K::Archived, A::Archived>>,
     ) -> Result<(), Error>
-        requires { CanResolve (tuple2_spelling K.Archived.shape K.spelling A.Archived.shape (A.spelling self.now.values.now))
-            (tuple2 K.Archived.shape A.Archived.shape) pair.now resolver out.out.now out.start out.pos }
-        ensures { Resolves (tuple2_spelling K.Archived.shape K.spelling A.Archived.shape (A.spelling self.now.values.now))
-            (tuple2 K.Archived.shape A.Archived.shape) pair.now resolver out.entry.pos out.entry.start
-            out.entry.out.now out.exit.0.now result }
+        requires { CanResolveTuple2 K.Archived.shape K.spelling A.Archived.shape (A.spelling self.now.values.now)
+            pair.now resolver out }
+        ensures { ResolvesTuple2 K.Archived.shape K.spelling A.Archived.shape (A.spelling self.now.values.now)
+            pair.now resolver out.entry out.exit result }
     {
         let Place {
             out,

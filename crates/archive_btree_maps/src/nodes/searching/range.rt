@@ -1,12 +1,11 @@
 //! Walks over the entries between two bounds.
-ghost use Rattle.std.specs.Prelude.{◌≡◌, List, []};
+ghost use Rattle.std.specs.Prelude.{◌≡◌, []};
 ghost use Rattle.std.specs.Iterator.{YieldsFirstBy, item_count};
 ghost use Rattle.archive_btree_layout.specs.Tree.{Tree, items};
 ghost use Rattle.archive_btree_layout.specs.Reading.{Place};
 ghost use Rattle.archive_btree_maps.specs.SearchingLayout.{IsTreeAt};
 ghost use Rattle.archive_btree_maps.specs.SearchingNodes.{place_of};
 ghost use Rattle.archive_btree_maps.specs.Ranges.{IsRun, before_key};
-ghost use Rattle.archive_btree_maps.specs.Walking.{stack_items, IsStack};
 ghost use Rattle.archive_btree_maps.specs.Calls.Stacks.{Stands, items_left};
 ghost use Rattle.archive_btree_maps.specs.Calls.Walks.{AreBetween, CanWalkBetween};
 

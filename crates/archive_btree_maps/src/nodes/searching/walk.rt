@@ -1,12 +1,11 @@
 //! Walks over all entries of a tree in their order.
-ghost use Rattle.std.specs.Prelude.{◌≡◌, ℕ, ◌+◌, ◌*◌, ◌^◌, ◌<◌, ◌≤◌, true, false, List, [], length, IfSome};
+ghost use Rattle.std.specs.Prelude.{◌≡◌, ℕ, ◌+◌, ◌*◌, ◌^◌, ◌<◌, ◌≤◌, true, false, [], length, IfSome};
 ghost use Rattle.std.specs.Iterator.{YieldsFirstBy, UpTo, item_count};
 ghost use Rattle.std.specs.Iterator.SizeHint.{IsExactHint, IsWithinCount};
 ghost use Rattle.archive_btree_layout.specs.Tree.{Tree, items};
 ghost use Rattle.archive_btree_layout.specs.Reading.{Place};
 ghost use Rattle.archive_btree_maps.specs.SearchingLayout.{IsTreeAt};
 ghost use Rattle.archive_btree_maps.specs.SearchingNodes.{place_of};
-ghost use Rattle.archive_btree_maps.specs.Walking.{stack_items, IsStack};
 ghost use Rattle.archive_btree_maps.specs.Ranges.{IfFirst, next_key};
 ghost use Rattle.archive_btree_maps.specs.Calls.Searching.{CanSearch, HasTreeOn};
 ghost use Rattle.archive_btree_maps.specs.Calls.Stacks.{AreReachedFrom, HasAllLeft, HasFailingLeft, HasLastLeft, PassesItem, PassesItemBefore, PushesItems, Stands, StayReached, StayReachedWith, items_left};

@@ -1,0 +1,39 @@
+-- What the laws of all parts state.
+use Rattle.std.specs.Prelude.{ℕ, List, Vec, length}
+use Rattle.std.specs.Global.{Global}
+use Rattle.std.specs.declared.default.Default.{Ghosts as Default}
+use Rattle.std.specs.declared.hash.Hasher.{Ghosts as Hasher}
+use Rattle.archive_shape_layout.specs.Holds.{root_position}
+use Rattle.archive_shape_layout.specs.Shape.{Shape}
+use Rattle.archive_shape_layout.specs.Shape.Shape.{index_map}
+use Rattle.archive_shape.specs.declared.types.portable.Portable.{Ghosts as Portable}
+use Rattle.archive_forms_laws.specs.Fields.{unit_spelling}
+use Rattle.archive_forms_laws.specs.Forms.{seen_as}
+use Rattle.archive_forms_laws.specs.Spelling.{Spelling}
+use Rattle.archive_forms.specs.Calls.Forms.{ReadMembers}
+use Rattle.archive_forms.specs.Faithful.{IsFaithful}
+use Rattle.archive_hash_maps.specs.Calls.Keys.{Hashes}
+use Rattle.archive_hash_probing.specs.Inputs.{input_hash}
+use Rattle.archive_hash_writing.specs.IndexResolvers.{pairs_spelling}
+use Rattle.archive_hash.specs.Calls.Members.{HashMembers, KeyMembers}
+use Rattle.archive_hash.specs.Owned.{key_entries}
+use Rattle.archive_index.specs.Answering.{IsWrittenMap, AnswersInOrder}
+use Rattle.archive_index.specs.Sets.{unit_shape}
+
+-- the archive of an index map answers for the entries that it was written of, in their order
+abbrev pub WrittenMapAnswers : {A B R P Q H C : Type 0} → KeyMembers Q → (A → Q) → Portable C → Spelling A R → Spelling B P → HashMembers A → HashMembers Q → Default H → Hasher H → Type 0
+WrittenMapAnswers {A} {B} k key v keys vals hash queries default hasher =
+    (bytes : List ℕ) (es : List (A × B))
+    → IsWrittenMap k.shape v.shape k.knows v.knows keys vals bytes hash.hash_input es
+    → AnswersInOrder k.shape v.shape k.knows v.knows keys vals bytes key k.order (λ query. Hashes default hasher (queries.hash_input query)) k.key_of
+    (root_position (length bytes) (index_map k.shape v.shape)) es
+
+-- a map is read back as a list of pairs that is archived as what was read
+abbrev pub MapsAreFaithful : {A B R Q : Type 0} → HashMembers A → Shape → Shape → Spelling A R → Spelling B Q → ReadMembers (Vec (A × B) Global) → Type 0
+MapsAreFaithful hash k v keys vals form =
+    IsFaithful (seen_as (λ xs. xs.items) (pairs_spelling (λ x. input_hash (hash.hash_input x)) k v keys vals)) form.reads
+
+-- a set is read back as a list of keys that is archived as what was read
+abbrev pub SetsAreFaithful : {A R : Type 0} → HashMembers A → Shape → Spelling A R → ReadMembers (Vec A Global) → Type 0
+SetsAreFaithful hash k keys form =
+    IsFaithful (seen_as (λ xs. key_entries xs.items) (pairs_spelling (λ x. input_hash (hash.hash_input x)) k unit_shape keys unit_spelling)) form.reads
