@@ -47,9 +47,9 @@ has() {
 
 # ---- the codes
 
-# codes: each status as src/status.rt and as cabinet.h have it, `NAME CODE`
+# codes: each status as crates/cabinet/src/calls/status.rt and as cabinet.h have it, `NAME CODE`
 codes_of_crate() {
-    sed -n 's/^    \([A-Z][A-Za-z0-9]*\) = \([0-9]*\),$/\1 \2/p' "$crate/src/status.rt" |
+    sed -n 's/^    \([A-Z][A-Za-z0-9]*\) = \([0-9]*\),$/\1 \2/p' "$crate/../cabinet/src/calls/status.rt" |
         sed ':again; s/\([a-z0-9]\)\([A-Z]\)/\1_\2/; t again' | tr a-z A-Z
 }
 

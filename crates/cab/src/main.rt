@@ -2,17 +2,9 @@
 //! `cab run ARCHIVE` carries out the lines of the standard input in an archive.
 #![tactic(auto)]
 
-mod beside;
-mod building;
-mod command;
-mod input;
-mod replacing;
-mod running;
-
-use building::build;
-use cab_files::{Fault, OutputStream, exit_code, fault_line, words};
-use command::{Command, parse};
-use running::run_archive;
+use cab_files::{
+    Command, Fault, OutputStream, build, exit_code, fault_line, parse, run_archive, words,
+};
 use std::fs::File;
 use std::io::IsTerminal;
 use std::process::ExitCode;

@@ -1,13 +1,24 @@
-//! What programs on the files of archives share: their words, the bytes of a file, their output, and how they end.
+//! What the programs on files of archives do: `cab` makes and edits an archive, and `cab_show` prints one.
 #![tactic(auto)]
 
 mod arguments;
+mod beside;
+mod building;
+mod command;
 mod ending;
+mod input;
+mod mapping;
 mod output;
 mod reading;
+mod replacing;
+mod running;
+mod showing;
 
 pub use arguments::words;
-pub use cabinet::{Fault, OpenRefusal, fault_line, write_document};
-pub use ending::{exit_code, standard_output};
+pub use building::build;
+pub use cabinet::{Fault, fault_line};
+pub use command::{Command, parse};
+pub use ending::exit_code;
 pub use output::OutputStream;
-pub use reading::read;
+pub use running::run_archive;
+pub use showing::{ShowCommand, map_archive, parse_show, report, show_archive};

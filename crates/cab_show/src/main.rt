@@ -2,15 +2,10 @@
 //! a map of the file.
 #![tactic(auto)]
 
-mod command;
-mod mapping;
-mod reporting;
-mod showing;
-
-use cab_files::{Fault, OutputStream, exit_code, words};
-use command::{Command, parse};
-use reporting::report;
-use showing::{map_archive, show_archive};
+use cab_files::{
+    Fault, OutputStream, ShowCommand, exit_code, map_archive, parse_show, report, show_archive,
+    words,
+};
 use std::env::FillError;
 use std::fs::File;
 use std::process::ExitCode;
@@ -32,10 +27,10 @@ fn place_of_path<R: Env>(rt: &R) -> usize {
 
 /// Carries out the command that the words spell.
 fn carry_out<R: Env + Files<File = File> + Print + AllocGlobal>(rt: &R) -> Result<(), Fault> {
-    match parse(words(rt, place_of_path(rt))?) {
-        Some(Command::Text { archive }) => show_archive(rt, archive),
-        Some(Command::Map { archive }) => map_archive(rt, archive, None),
-        Some(Command::MapLines { lines, archive }) => map_archive(rt, archive, Some(lines)),
+    match parse_show(words(rt, place_of_path(rt))?) {
+        Some(ShowCommand::Text { archive }) => show_archive(rt, archive),
+        Some(ShowCommand::Map { archive }) => map_archive(rt, archive, None),
+        Some(ShowCommand::MapLines { lines, archive }) => map_archive(rt, archive, Some(lines)),
         None => Err(Fault::Usage),
     }
 }

@@ -1,3 +1,5 @@
+pub mod CallsGiven
+pub mod CallsLines
 mod Loads
 pub mod Nested
 mod Questions

@@ -1,11 +1,13 @@
--- Laws of sessions and of loaded documents, as statements.
+-- Laws of sessions, of loaded documents and of statuses, as statements.
 use Rattle.std.specs.Prelude.{◌≡◌, ℕ, List, take, drop, Option}
 use Rattle.cabinet_text_grammar.specs.Tree.{Tree}
 use Rattle.cabinet_text_grammar.specs.Line.{Line}
 use Rattle.cabinet_documents.specs.Accepted.{Accepted}
 use Rattle.cabinet_documents.specs.Image.{Image}
+use Rattle.cabinet.specs.Codes.{code_of}
 use Rattle.cabinet.specs.Session.{AllSay, after_all}
 use Rattle.cabinet.specs.Editing.{LinesLeave, EditedByLines}
+use Rattle.cabinet.specs.declared.calls.status.Status.{Status}
 
 -- the first `lines` lines leave the bytes `mid`, and the others continue from there
 pub record IsAfter (x y : List ℕ) (t : Tree) (said : List (Option Line)) (lines : ℕ) (mid : List ℕ) : Type 0 where
@@ -50,3 +52,7 @@ SavedAgainIsSame =
     → IsLoaded image e
     → Image e again
     → again ≡ image
+
+-- a code is that of one status
+abbrev pub CodesDiffer : Type 0
+CodesDiffer = (s t : Status) → code_of s ≡ code_of t → s ≡ t

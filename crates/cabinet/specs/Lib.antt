@@ -1,4 +1,7 @@
+pub mod Buffers
+pub mod ByteCalls
 pub mod Calls
+pub mod Codes
 pub mod Editing
 pub mod Failures
 pub mod Headline

@@ -1,5 +1,5 @@
-//! The laws of documents in archives, of loaded documents and of sessions. Each is a function with an empty body, whose contract is the law.
-ghost use Rattle.cabinet.specs.Laws.{AcceptedAfterEachLine, ImageAfterEachLine, LoadedIsSaved, SavedAgainIsSame, UneditedBytesStay};
+//! The laws of documents in archives, of loaded documents, of sessions and of statuses. Each is a function with an empty body, whose contract is the law.
+ghost use Rattle.cabinet.specs.Laws.{AcceptedAfterEachLine, CodesDiffer, ImageAfterEachLine, LoadedIsSaved, SavedAgainIsSame, UneditedBytesStay};
 
 pub use crate::refusals::accepted_is_not_refused;
 
@@ -26,4 +26,9 @@ pub fn loaded_is_saved()
 /// Loading a saved document and saving it once more gives the same bytes.
 pub fn saved_again_is_same()
     ensures { SavedAgainIsSame }
+{}
+
+/// Different statuses have different codes.
+pub fn codes_differ()
+    ensures { CodesDiffer }
 {}

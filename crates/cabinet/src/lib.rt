@@ -1,6 +1,7 @@
 //! Documents in archives: saving them, opening them, questions about them, and edits in place.
 #![tactic(auto)]
 
+pub mod calls;
 mod fault;
 pub mod laws;
 mod opened;

@@ -2,14 +2,10 @@
 ghost use Rattle.std.specs.Prelude.{◌≡◌};
 ghost use Rattle.cabinet_text_grammar.specs.Tree.{Tree};
 ghost use Rattle.cabinet_documents.specs.Accepted.{Accepted};
-ghost use Rattle.cabinet_c.specs.Calls.{Checks, Asks, Sets, Builds, Loads};
-ghost use Rattle.cabinet_c.specs.Codes.{IsCodeOf};
+ghost use Rattle.cabinet.specs.ByteCalls.{Checks, Asks, Sets, Builds, Loads};
+ghost use Rattle.cabinet.specs.Codes.{IsCodeOf};
 
-use crate::asking::ask;
-use crate::building::build;
-use crate::checking::check;
-use crate::loading::load;
-use crate::setting::set;
+use cabinet::calls::{ask, build, check, load, set};
 use std::alloc::Global;
 
 /// Checks that bytes are the archive of a document. Returns the code of `Ok`, of a refusal to open, or of `OutOfMemory`.

@@ -1,8 +1,10 @@
-//! Tests of the cabinet on examples: what the contracts of saving, opening, sessions and faults leave open.
+//! Tests of the cabinet on examples: what the contracts of saving, opening, sessions, faults and calls leave open.
 #![tactic(auto)]
 
 #[cfg(test)]
 mod archives;
+#[cfg(test)]
+mod calls;
 #[cfg(test)]
 mod carrying;
 #[cfg(test)]

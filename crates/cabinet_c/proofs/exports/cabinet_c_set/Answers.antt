@@ -1,4 +1,4 @@
-use Rattle.cabinet_c.proofs.Lines.{sets_keeps}
+use Rattle.cabinet.proofs.CallsLines.{sets_keeps}
 use Rattle.cabinet_c.proofs.exports.cabinet_c_set.Goals as goal
 
 pub returns-clause-kept : goal.returns-clause-kept

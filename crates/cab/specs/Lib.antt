@@ -1,4 +1,0 @@
-pub mod Beside
-pub mod Building
-pub mod Ending
-pub mod Words

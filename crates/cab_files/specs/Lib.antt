@@ -1,0 +1,6 @@
+pub mod Beside
+pub mod Building
+pub mod Ending
+pub mod ShowWords
+pub mod Showing
+pub mod Words

@@ -1,0 +1,101 @@
+//! Printing the text of an archive's document, or a map of the archive.
+ghost use Rattle.std.specs.Prelude.{◌-◌, ◌^◌, ◌<◌, IfErr};
+ghost use Rattle.cabinet_archives.specs.Refused.{refusal_of};
+ghost use Rattle.cabinet_documents.specs.Audit.{IsRefusedFor};
+ghost use Rattle.cab_files.specs.Showing.{EndsShowBy};
+
+use crate::ending::standard_output;
+use crate::mapping::write_map;
+use crate::output::OutputStream;
+use crate::reading::read;
+use archive_shape_layout::{Error, Writer};
+use cabinet::{Fault, OpenRefusal, write_document};
+use std::alloc::Global;
+use std::fs::File;
+use std::io;
+use std::io::BufWriter;
+use std::rt::Files;
+
+/// The maximum number of bytes that wait to be written.
+const BUFFER: usize = 65536;
+
+/// What is shown of an archive.
+#[derive(Clone, Copy, Debug)]
+enum View {
+    /// The text of its document.
+    Text,
+    /// The map of its regions, with at most so many lines.
+    Map(Option<u64>),
+}
+
+/// Writes a view of the bytes, which are an archive.
+fn write_view<W: Writer>(
+    alloc: Global,
+    archive: &[u8],
+    view: View,
+    writer: &mut W,
+) -> Result<Result<(), Error>, OpenRefusal>
+    requires { W.failures writer.old < 2 ^ 64 - 1 }
+    ensures { IfErr result (λ refusal. IsRefusedFor archive.now (refusal_of refusal)) }
+{
+    match view {
+        View::Text => write_document(alloc, archive, writer),
+        View::Map(lines) => write_map(alloc, archive, lines, writer),
+    }
+}
+
+/// Prints a view of the bytes, which are an archive, and returns whether all of it was printed.
+fn print_view<R: Print>(
+    rt: &R,
+    alloc: Global,
+    archive: &[u8],
+    view: View,
+) -> Result<bool, OpenRefusal>
+    ensures { IfErr result (λ refusal. IsRefusedFor archive.now (refusal_of refusal)) }
+{
+    let Ok(stream) = BufWriter::with_capacity(alloc, BUFFER, io::writer(rt)) else {
+        return Ok(false);
+    };
+    let mut output = OutputStream::new(stream, false);
+    let written = write_view(alloc, archive, view, &mut output)?;
+    Ok(written.is_ok() && output.flush().is_ok())
+}
+
+/// Prints a view of an archive file.
+fn show<R: Files<File = File> + Print + AllocGlobal>(
+    rt: &R,
+    path: String,
+    view: View,
+) -> Result<(), Fault>
+    ensures { IfErr result (EndsShowBy path) }
+{
+    let Ok((archive, _)) = read(rt, path.as_str()) else {
+        return Err(Fault::CannotRead(path));
+    };
+    match print_view(rt, rt.alloc(), archive.as_slice(), view) {
+        Ok(true) => Ok(()),
+        Ok(false) => Err(Fault::CannotWrite(standard_output(path))),
+        Err(refusal) => Err(Fault::Open(refusal)),
+    }
+}
+
+/// Prints the text of the document that an archive file holds.
+pub fn show_archive<R: Files<File = File> + Print + AllocGlobal>(
+    rt: &R,
+    path: String,
+) -> Result<(), Fault>
+    ensures { IfErr result (EndsShowBy path) }
+{
+    show(rt, path, View::Text)
+}
+
+/// Prints the map of an archive file, with at most so many lines of regions.
+pub fn map_archive<R: Files<File = File> + Print + AllocGlobal>(
+    rt: &R,
+    path: String,
+    lines: Option<u64>,
+) -> Result<(), Fault>
+    ensures { IfErr result (EndsShowBy path) }
+{
+    show(rt, path, View::Map(lines))
+}

@@ -1,0 +1,20 @@
+//! The line that reports a fault.
+ghost use Rattle.std.specs.Prelude.{◌-◌, ◌^◌, ◌<◌};
+ghost use Rattle.archive_shape_layout.specs.Writing.{Writes};
+ghost use Rattle.cab_files.specs.Showing.{spelled_report};
+
+use archive_shape_layout::{Error, Writer};
+use cabinet::{Fault, fault_line};
+
+/// Writes the line that reports a fault: that of `cab`, except for the usage.
+pub fn report<W: Writer>(fault: &Fault, writer: &mut W) -> Result<(), Error>
+    requires { W.failures writer.old < 2 ^ 64 - 1 }
+    ensures { Writes W.Writer writer.old writer.new (spelled_report fault.now) result }
+{
+    match fault {
+        Fault::Usage => writer.write(
+            b"cab_show: usage: cab_show ARCHIVE | cab_show --map [--lines N] ARCHIVE\n",
+        ),
+        fault => fault_line(fault, writer),
+    }
+}

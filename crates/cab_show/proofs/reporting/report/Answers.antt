@@ -1,4 +1,0 @@
-use Rattle.cab_show.proofs.reporting.report.Goals as goal
-
-pub returns-in-Usage : goal.returns-in-Usage
-returns-in-Usage g c = rw c.in-Usage.is c.write.ensures

@@ -1,4 +1,0 @@
-pub mod Buffers
-pub mod Calls
-pub mod Codes
-pub mod Laws
