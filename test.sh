@@ -26,8 +26,8 @@ if ! tests/map.sh; then
     exit 1
 fi
 
-# The number of checks that run side by side: one for each processor, where memory has 4.5 GB for each. The gate by itself
-# reckons with twice the memory that a check takes, of which the most was measured as 3.4 GB, and would leave processors idle.
+# The number of checks that run side by side: one for each processor, where memory has 5 GB for each. The gate by itself
+# reckons with up to 8 GB for a check, where the most that one took is 4.7 GB, and would leave processors idle.
 checks_at_once() {
     local memory limit
     memory=$(awk '/^MemAvailable:/ { print $2 * 1024 }' /proc/meminfo)
@@ -36,7 +36,7 @@ checks_at_once() {
         [[ $limit =~ ^[0-9]+$ ]] && memory=$(printf '%s\n%s\n' "$memory" "$limit" | sort -g | head -n 1)
     done
     awk -v memory="$memory" -v processors="$(nproc)" 'BEGIN {
-        checks = int(memory / 4.5e9)
+        checks = int(memory / 5e9)
         print checks < 1 ? 1 : checks < processors ? checks : processors
     }'
 }
