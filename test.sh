@@ -5,7 +5,8 @@
 set -u
 cd "$(dirname "$0")" || exit 1
 log=$(mktemp)
-trap 'rm -f "$log"' EXIT
+outputs=$(mktemp -d)
+trap 'rm -rf "$log" "$outputs"' EXIT
 
 # Prints a line, and the processor minutes that this script's commands have taken so far.
 say() {
@@ -51,39 +52,42 @@ if [ "$status" -ne 0 ] || ! [[ $(tail -n 1 "$log") =~ ^[0-9]+\ passed,\ 0\ faile
 fi
 say 'the merge gate passed'
 
-echo '== the programs on files'
+titles=()
+faults=()
+scripts=()
+
+# Starts a script beside the others: what it runs, what is wrong if it fails, and its command.
+start() {
+    titles+=("$1")
+    faults+=("$2")
+    "${@:3}" > "$outputs/${#scripts[@]}" 2>&1 &
+    scripts+=("$!")
+}
+
 # the merge gate has left the programs that it proved and built
-if ! tests/program.sh "$PWD/crates/cab/out/cab" "$PWD/crates/cab_show/out/cab_show"; then
-    say 'a program failed'
-    exit 1
-fi
-
-echo '== the filters to and from JSON'
-if ! tests/json.sh "$PWD/crates/cab/out/cab" "$PWD/crates/cab_show/out/cab_show"; then
-    say 'a filter failed'
-    exit 1
-fi
-
-echo '== many archives in a database'
-if ! tests/many.sh "$PWD/crates/cab/out/cab" "$PWD/crates/cab_show/out/cab_show"; then
-    say 'the archives in a database failed'
-    exit 1
-fi
-
-echo '== the programs with refused calls'
-if ! tests/refused.sh "$PWD/crates/cab/out/cab" "$PWD/crates/cab_show/out/cab_show" "$PWD/crates/cabinet_refused/out/cabinet_refused" \
-    "$PWD/crates/archive_example/out/archive_example"; then
-    say 'a refused call was not told'
-    exit 1
-fi
-
-echo '== the calls from C and Python'
+cab=$PWD/crates/cab/out/cab
+show=$PWD/crates/cab_show/out/cab_show
+start 'the programs on files' 'a program failed' tests/program.sh "$cab" "$show"
+start 'the filters to and from JSON' 'a filter failed' tests/json.sh "$cab" "$show"
+start 'many archives in a database' 'the archives in a database failed' tests/many.sh "$cab" "$show"
+start 'the programs with refused calls' 'a refused call was not told' \
+    tests/refused.sh "$cab" "$show" "$PWD/crates/cabinet_refused/out/cabinet_refused" "$PWD/crates/archive_example/out/archive_example"
 # The merge gate leaves no static library. `rt lib` builds it over the libraries that `rt check` has left here; where there
 # are none it would prove each of them once more.
-if [ ! -f crates/cabinet/out/rlib/stamp ]; then
-    echo 'skipped: rt check has left no libraries here; tests/bindings.sh proves them and runs the calls'
-elif ! tests/bindings.sh; then
-    say 'a call from C failed'
+if [ -f crates/cabinet/out/rlib/stamp ]; then
+    start 'the calls from C and Python' 'a call from C failed' tests/bindings.sh
+else
+    start 'the calls from C and Python' '' echo 'skipped: rt check has left no libraries here; tests/bindings.sh proves them and runs the calls'
+fi
+
+fault=
+for number in "${!scripts[@]}"; do
+    wait "${scripts[number]}" || fault=${fault:-${faults[number]}}
+    echo "== ${titles[number]}"
+    cat "$outputs/$number"
+done
+if [ -n "$fault" ]; then
+    say "$fault"
     exit 1
 fi
 
