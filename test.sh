@@ -27,23 +27,22 @@ if ! tests/map.sh; then
     exit 1
 fi
 
-# The number of checks that run side by side: one for each processor, where memory has 5 GB for each. The gate by itself
-# reckons with up to 8 GB for a check, where the most that one took is 4.7 GB, and would leave processors idle.
-checks_at_once() {
-    local memory limit
+# Returns whether memory has 4.5 GB for a check on each processor.
+has_room() {
+    local memory file limit
     memory=$(awk '/^MemAvailable:/ { print $2 * 1024 }' /proc/meminfo)
-    for limit in /sys/fs/cgroup/memory.max /sys/fs/cgroup/memory/memory.limit_in_bytes; do
-        limit=$(cat "$limit" 2> /dev/null)
+    for file in /sys/fs/cgroup/memory.max /sys/fs/cgroup/memory/memory.limit_in_bytes; do
+        limit=$(cat "$file" 2> /dev/null)
         [[ $limit =~ ^[0-9]+$ ]] && memory=$(printf '%s\n%s\n' "$memory" "$limit" | sort -g | head -n 1)
     done
-    awk -v memory="$memory" -v processors="$(nproc)" 'BEGIN {
-        checks = int(memory / 5e9)
-        print checks < 1 ? 1 : checks < processors ? checks : processors
-    }'
+    awk -v memory="$memory" -v processors="$(nproc)" 'BEGIN { exit memory < 4.5e9 * processors }'
 }
 
 echo '== the merge gate'
-export RT_JOBS=${RT_JOBS:-$(checks_at_once)}
+# The gate by itself reckons with up to 8 GB for a check, of which few take 4, and would leave processors idle.
+if [ -z "${RT_JOBS:-}" ] && has_room; then
+    export RT_JOBS=$(nproc)
+fi
 rt ci < /dev/null | tee "$log"
 status=${PIPESTATUS[0]}
 if [ "$status" -ne 0 ] || ! [[ $(tail -n 1 "$log") =~ ^[0-9]+\ passed,\ 0\ failed$ ]]; then
