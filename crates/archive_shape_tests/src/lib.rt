@@ -1,4 +1,4 @@
-//! Tests of the crates `archive_shape`, `archive_shape_layout` and `archive_shape_writing`.
+//! Tests of the crates `archive_shape` and `archive_shape_layout`.
 #![tactic(auto)]
 
 #[cfg(test)]
