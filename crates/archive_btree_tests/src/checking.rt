@@ -1,9 +1,10 @@
 //! Tests of the search trees that are refused, and of the errors.
 
 use crate::archives::ONE_PAIR;
+use archive_btree::check_btree_each;
 use archive_btree_maps::{ArchivedBTreeMap, InvalidLength};
 use archive_core_validation::{ArchiveValidator, access};
-use archive_shape::{ArchivedNonZeroU32, ArchivedU32, Error, Ref};
+use archive_shape::{ArchivedNonZeroU32, ArchivedU32, CheckBytes, Error, Ref};
 use std::alloc::Global;
 
 /// A map of numbers without 0 to numbers.
@@ -34,6 +35,20 @@ fn verified(alloc: Global, key: u8, len: u8, entries: u8) -> Result<(), Error> {
     ArchivedBTreeMap::verify(map, alloc, &mut context)
 }
 
+/// Returns the result of checking that map by steps of the caller's, once the first key is replaced.
+fn checked_by_steps(alloc: Global, key: u8) -> Result<(), Error> {
+    let mut bytes = *ONE_PAIR;
+    bytes[4] = key;
+    let mut context = ArchiveValidator::new(alloc, &bytes);
+    check_btree_each::<ArchivedNonZeroU32, ArchivedU32, ArchiveValidator, _, _, 5>(
+        &bytes,
+        48,
+        &mut context,
+        |c: &mut ArchiveValidator, pos: usize| ArchivedNonZeroU32::check(alloc, &bytes, pos, c),
+        |c: &mut ArchiveValidator, pos: usize| ArchivedU32::check(alloc, &bytes, pos, c),
+    )
+}
+
 /// Kinds, keys and lengths of leaves, and the errors of the check.
 const REFUSED: [(u8, u8, u8, Error); 4] = [
     (0, 7, 6, Error::NodeLength { len: 6, maximum: 5 }),
@@ -62,4 +77,12 @@ fn search_trees_are_verified(rt: HostRuntime) {
     for &(key, len, entries, result) in &VERIFIED {
         assert!(rt; verified(rt.alloc(), key, len, entries) == result);
     }
+}
+
+#[test]
+fn search_trees_are_checked_by_steps_of_the_caller(rt: HostRuntime) {
+    assert!(rt;
+        checked_by_steps(rt.alloc(), 7) == Ok(())
+            && checked_by_steps(rt.alloc(), 0) == Err(Error::InvalidTag)
+    );
 }

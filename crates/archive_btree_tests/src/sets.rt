@@ -2,6 +2,7 @@
 
 use crate::archives::root_of;
 use crate::writing::set_of;
+use archive_btree::SetIter;
 use archive_btree_maps::{ArchivedBTreeSet, BTreeSetResolver, eq_btree_set};
 use archive_forms_comparing::{ArchivedEq, ArchivedHash};
 use archive_forms_values::native_of;
@@ -38,6 +39,14 @@ fn finds(alloc: Global, bytes: &[u8], key: u32, len: usize, has: bool) -> bool {
         && ArchivedBTreeSet::len(root) == len
         && ArchivedBTreeSet::is_empty(root) == (len == 0)
         && ArchivedBTreeSet::contains_key(root, &key) == has
+}
+
+/// Returns the number of keys of a set and the first of them, or `None` if it has none.
+fn keys_from_the_first(alloc: Global, bytes: &[u8]) -> Option<(usize, u32)> {
+    let mut keys: SetIter<'_, ArchivedU32> =
+        ArchivedBTreeSet::iter(root_of::<Numbers>(alloc, bytes)?);
+    let len = keys.len();
+    Some((len, native_of(keys.next()?)))
 }
 
 /// Sets by their bytes, keys, the number of keys, and whether the sets have the keys.
@@ -146,4 +155,13 @@ fn set_is_resolved(rt: HostRuntime) {
     let resolver = BTreeSetResolver::from_pos(Some(0));
     let done = Numbers::resolve_from_len(4, resolver, Place::new(&mut own, 28));
     assert!(rt; done.is_ok() && own == [0xe4, 0xff, 0xff, 0xff, 4, 0, 0, 0]);
+}
+
+#[test]
+fn keys_are_iterated_over_from_the_first(rt: HostRuntime) {
+    assert!(rt;
+        keys_from_the_first(rt.alloc(), NONE).is_none()
+            && keys_from_the_first(rt.alloc(), FOUR) == Some((4, 10))
+            && keys_from_the_first(rt.alloc(), SIX) == Some((6, 1))
+    );
 }

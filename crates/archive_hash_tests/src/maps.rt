@@ -5,6 +5,7 @@ use crate::reading::{HASH_OF_A, ONE_OF_TWO, root_of};
 use archive_core_validation::HighValidator;
 use archive_forms_comparing::ArchivedDebug;
 use archive_forms_values::ArchivedString;
+use archive_hash::SetIter;
 use archive_hash_maps::{ArchivedHashMap, ArchivedHashSet, ArchivedHashTable, eq_hash_map};
 use archive_hash_probing::FxHasher64;
 use archive_shape::{ArchivedU32, CheckBytes, Ref, Seal};
@@ -42,6 +43,21 @@ const THREE_KEYS: [u8; 76] = [
 /// A map or a set without entries.
 pub(crate) const NOTHING: [u8; 12] = [1, 0, 0, 0, 0, 0, 0, 0, 0, 0, 0, 0];
 
+/// Returns whether the iterator over the keys of the set of three walks these positions.
+fn keys_are_walked(alloc: Global, positions: &[usize]) -> bool {
+    let Ok(root) = root_of::<Keys>(alloc, &THREE_KEYS) else {
+        return false;
+    };
+    let mut keys: SetIter<'_, ArchivedString> = ArchivedHashSet::iter(root);
+    for position in positions {
+        match keys.next() {
+            Some(key) if key.pos() == *position => {}
+            _ => return false,
+        }
+    }
+    keys.next().is_none()
+}
+
 /// Returns whether iterators over the keys and the values alone walk these positions, each with its key first.
 fn are_walked(alloc: Global, positions: &[(usize, usize)]) -> bool {
     let Ok(root) = root_of::<Texts>(alloc, &THREE) else {
@@ -61,6 +77,11 @@ fn are_walked(alloc: Global, positions: &[(usize, usize)]) -> bool {
 #[test]
 fn keys_and_values_are_walked_by_ascending_place(rt: HostRuntime) {
     assert!(rt; are_walked(rt.alloc(), &[(48, 56), (16, 24), (0, 8)]));
+}
+
+#[test]
+fn keys_of_a_set_are_walked_by_ascending_place(rt: HostRuntime) {
+    assert!(rt; keys_are_walked(rt.alloc(), &[24, 8, 0]));
 }
 
 /// Returns the position of the key that the caller's comparison accepts for the hash of a text, and that of its value.

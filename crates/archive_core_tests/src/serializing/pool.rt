@@ -1,4 +1,5 @@
 //! Tests of pools, which keep the result of each shared value.
+use archive_core::HighDeserializer;
 use archive_core_serializing::{ExactClone, Pool, RcValue};
 use archive_shape::{Error, Pooling, PoolingState};
 use std::alloc::Global;
@@ -15,7 +16,7 @@ fn pool_of_one_position<T: ExactClone>(alloc: Global, value: T) -> Result<Pool<T
 
 #[test]
 fn position_is_begun_once_and_ends_once(rt: HostRuntime) -> Result<(), Fail> {
-    let mut pool: Pool<usize> = Pool::with_capacity(rt.alloc(), 8)?;
+    let mut pool: HighDeserializer<usize> = Pool::with_capacity(rt.alloc(), 8)?;
     assert!(rt;
         pool.start_pooling(1) == Ok(PoolingState::Started)
             && pool.start_pooling(1) == Ok(PoolingState::Pending)
