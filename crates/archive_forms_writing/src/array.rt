@@ -49,9 +49,7 @@ fn resolve_elements<T: Archive>(
     let size = T::Archived::SIZE;
     let mut offset = 0;
     for (i, item) in items.iter().enumerate() {
-        if let Err(e) = resolve_element(item, kept[i], start + offset, pos + offset, out) {
-            return Err(e);
-        }
+        resolve_element(item, kept[i], start + offset, pos + offset, out)?;
         offset += size;
     }
     Ok(())
@@ -109,16 +107,10 @@ pub fn serialize_array_each<
     if N == 0 {
         return Ok(no_resolvers());
     }
-    let first = match step(&items[0], serializer) {
-        Ok(done) => done.0,
-        Err(e) => return Err(e),
-    };
+    let first = step(&items[0], serializer)?.0;
     let mut kept = [first; N];
     for i in 1..N {
-        match step(&items[i], serializer) {
-            Ok(done) => kept[i] = done.0,
-            Err(e) => return Err(e),
-        }
+        kept[i] = step(&items[i], serializer)?.0;
     }
     Ok(kept)
 }

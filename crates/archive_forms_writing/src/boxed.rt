@@ -57,10 +57,8 @@ pub fn serialize_box_each<
     requires writes { StepWrites F.Fn (λ q. q.0) T.spelling S.Writer step }
     ensures { WritesData ⟦<Box<T> as Archive>⟧ S.Writer value.now serializer.old serializer.new result }
 {
-    match serialize_one_each(&**value, serializer, step) {
-        Ok(pos) => Ok(BoxResolver { pos }),
-        Err(e) => Err(e),
-    }
+    let pos = serialize_one_each(&**value, serializer, step)?;
+    Ok(BoxResolver { pos })
 }
 
 impl<S: Writer + Allocator, T: Serialize<S>> Serialize<S> for Box<T> {

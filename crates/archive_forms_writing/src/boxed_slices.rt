@@ -66,10 +66,8 @@ pub fn serialize_boxed_slice_each<
     requires writes { StepWrites F.Fn (λ q. q.0) T.spelling S.Writer step }
     ensures { WritesData ⟦<BoxedSlice<T> as Archive>⟧ S.Writer items.now serializer.old serializer.new result }
 {
-    match serialize_slice_each(items.as_slice(), serializer, step) {
-        Ok(pos) => Ok(BoxResolver { pos }),
-        Err(e) => Err(e),
-    }
+    let pos = serialize_slice_each(items.as_slice(), serializer, step)?;
+    Ok(BoxResolver { pos })
 }
 
 impl<S: Writer + Allocator, T: Serialize<S>> Serialize<S> for BoxedSlice<T> {
@@ -97,10 +95,8 @@ pub fn serialize_str<S: Writer>(value: &str, serializer: &mut S) -> Result<usize
     if pos > u32::MAX as usize {
         return Err(Error::PositionTooLarge);
     }
-    match serializer.write(value.as_bytes()) {
-        Ok(()) => Ok(pos),
-        Err(e) => Err(e),
-    }
+    serializer.write(value.as_bytes())?;
+    Ok(pos)
 }
 
 impl Archive for BoxedStr {
@@ -133,9 +129,7 @@ impl Archive for BoxedStr {
 
 impl<S: Writer + Allocator> Serialize<S> for BoxedStr {
     fn serialize(&self, serializer: &mut S) -> Result<BoxResolver, Error> {
-        match serialize_str(self.as_str(), serializer) {
-            Ok(pos) => Ok(BoxResolver { pos }),
-            Err(e) => Err(e),
-        }
+        let pos = serialize_str(self.as_str(), serializer)?;
+        Ok(BoxResolver { pos })
     }
 }

@@ -57,9 +57,7 @@ fn resolve_all<T, A: ArchiveWith<T>>(
     let size = A::Archived::SIZE;
     let mut filled = 0;
     for (i, item) in items.iter().enumerate() {
-        if let Err(e) = resolve_at(with, item, kept[i], pos, buffer, filled) {
-            return Err(e);
-        }
+        resolve_at(with, item, kept[i], pos, buffer, filled)?;
         filled += size;
     }
     Ok(filled)
@@ -72,13 +70,9 @@ fn flush<W: Writer>(writer: &mut W, buffer: &mut [u8], filled: usize) -> Result<
     ensures writes { Writes W.Writer writer.old writer.new (take filled buffer.old) result }
     ensures blank { IfOk result (λ _. buffer.new ≡ zeros (length buffer.old)) }
 {
-    match writer.write(&buffer[..filled]) {
-        Ok(()) => {
-            buffer.fill(0);
-            Ok(())
-        }
-        Err(e) => Err(e),
-    }
+    writer.write(&buffer[..filled])?;
+    buffer.fill(0);
+    Ok(())
 }
 
 /// Writes the own bytes of adjacent items through a buffer of zeros. Their data was written before.
@@ -103,9 +97,7 @@ pub(crate) fn resolve_through<T, A: ArchiveWith<T>, W: Writer>(
     let mut filled = 0;
     for (i, item) in items.iter().enumerate() {
         if room - filled < size {
-            if let Err(e) = flush(writer, buffer, filled) {
-                return Err(e);
-            }
+            flush(writer, buffer, filled)?;
             filled = 0;
             base = writer.pos();
             room = room_at(len, base);
@@ -113,9 +105,7 @@ pub(crate) fn resolve_through<T, A: ArchiveWith<T>, W: Writer>(
                 return Err(Error::PositionTooLarge);
             }
         }
-        if let Err(e) = resolve_at(with, item, kept[i], base, buffer, filled) {
-            return Err(e);
-        }
+        resolve_at(with, item, kept[i], base, buffer, filled)?;
         filled += size;
     }
     writer.write(&buffer[..filled])
@@ -157,8 +147,6 @@ pub(crate) fn resolve_at_once<T, A: ArchiveWith<T>, W: Writer>(
     ensures { LaysOwns (A.spelling with.now) A.Archived.shape W.Writer items.now kept.now writer.old writer.new result }
 {
     let mut buffer = [0; BUFFER_LEN];
-    match resolve_all(with, items, kept, writer.pos(), &mut buffer) {
-        Ok(filled) => writer.write(&buffer[..filled]),
-        Err(e) => Err(e),
-    }
+    let filled = resolve_all(with, items, kept, writer.pos(), &mut buffer)?;
+    writer.write(&buffer[..filled])
 }

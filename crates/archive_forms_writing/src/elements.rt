@@ -35,10 +35,7 @@ pub fn serialize_element<T: Serialize<S>, S: Writer + Allocator>(
     ensures { SerializesBy (λ q. q.0) T.spelling S.Writer item.now
         serializer.old serializer.new result }
 {
-    match item.serialize(serializer) {
-        Ok(resolver) => Ok((resolver, PhantomData)),
-        Err(e) => Err(e),
-    }
+    Ok((item.serialize(serializer)?, PhantomData))
 }
 
 /// Writes the data of each item by the step, and returns their resolvers.
@@ -58,10 +55,7 @@ fn serialize_data_each<
         return Err(Error::OutOfMemory);
     };
     for item in items {
-        let resolver = match step(item, serializer) {
-            Ok(done) => done.0,
-            Err(e) => return Err(e),
-        };
+        let resolver = step(item, serializer)?.0;
         if all.push(resolver).is_err() {
             return Err(Error::OutOfMemory);
         }
@@ -85,16 +79,10 @@ fn serialize_few_each<
     requires writes { StepWrites F.Fn (λ q. q.0) (A.spelling with.now) S.Writer step }
     ensures { SerializesFew (A.spelling with.now) S.Writer items.now serializer.old serializer.new result }
 {
-    let first = match step(&items[0], serializer) {
-        Ok(done) => done.0,
-        Err(e) => return Err(e),
-    };
+    let first = step(&items[0], serializer)?.0;
     let mut kept = [first; MAX_KEPT];
     for i in 1..items.len() {
-        match step(&items[i], serializer) {
-            Ok(done) => kept[i] = done.0,
-            Err(e) => return Err(e),
-        }
+        kept[i] = step(&items[i], serializer)?.0;
     }
     Ok(kept)
 }
@@ -155,17 +143,12 @@ fn resolve_behind<T, A: ArchiveWith<T>, S: Writer + Allocator>(
     requires made { (st : State) × (kept.now ≡ resolvers (A.spelling with.now) items.now st) }
     ensures { LaysOwnsBehind (A.spelling with.now) A.Archived.shape S.Writer items.now kept.now serializer.old serializer.new result }
 {
-    let to = match align(serializer, A::Archived::ALIGN) {
-        Ok(to) => to,
-        Err(e) => return Err(e),
-    };
+    let to = align(serializer, A::Archived::ALIGN)?;
     if to > LAST_POSITION {
         return Err(Error::PositionTooLarge);
     }
-    match resolve_items(with, items, kept, serializer) {
-        Ok(()) => Ok(to),
-        Err(e) => Err(e),
-    }
+    resolve_items(with, items, kept, serializer)?;
+    Ok(to)
 }
 
 /// Writes the data of each item by the step, and then the own bytes of all items from the next position of their
@@ -185,16 +168,10 @@ pub fn serialize_slice_with_each<
 {
     let none: Option<A::Resolver> = None;
     if size_of_val(&none) <= MAX_KEPT_SIZE && !items.is_empty() && items.len() <= MAX_KEPT {
-        let few = match serialize_few_each(with, items, serializer, step) {
-            Ok(few) => few,
-            Err(e) => return Err(e),
-        };
+        let few = serialize_few_each(with, items, serializer, step)?;
         return resolve_behind(with, items, &few[..items.len()], serializer);
     }
-    let kept = match serialize_data_each(with, items, serializer, step) {
-        Ok(kept) => kept,
-        Err(e) => return Err(e),
-    };
+    let kept = serialize_data_each(with, items, serializer, step)?;
     resolve_behind(with, items, kept.as_slice(), serializer)
 }
 
@@ -230,19 +207,11 @@ pub fn serialize_one_each<
         serializer.old serializer.new result }
 {
     let alloc = serializer.memory();
-    let resolver = match step(value, serializer) {
-        Ok(done) => done.0,
-        Err(e) => return Err(e),
-    };
-    let to = match align(serializer, T::Archived::ALIGN) {
-        Ok(to) => to,
-        Err(e) => return Err(e),
-    };
+    let resolver = step(value, serializer)?.0;
+    let to = align(serializer, T::Archived::ALIGN)?;
     if to > LAST_POSITION {
         return Err(Error::PositionTooLarge);
     }
-    match resolve_aligned(alloc, value, resolver, serializer) {
-        Ok(()) => Ok(to),
-        Err(e) => Err(e),
-    }
+    resolve_aligned(alloc, value, resolver, serializer)?;
+    Ok(to)
 }

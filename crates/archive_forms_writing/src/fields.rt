@@ -22,8 +22,6 @@ pub fn resolve_field<T: Archive>(
 {
     let _len = out.len();
     let from = next_multiple(offset, T::Archived::ALIGN);
-    match value.resolve(resolver, Place::within(out, start + from, pos + from)) {
-        Ok(()) => Ok(from + T::Archived::SIZE),
-        Err(e) => Err(e),
-    }
+    value.resolve(resolver, Place::within(out, start + from, pos + from))?;
+    Ok(from + T::Archived::SIZE)
 }

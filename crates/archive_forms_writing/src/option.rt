@@ -62,10 +62,7 @@ pub fn serialize_option_each<
 {
     match option {
         None => Ok(None),
-        Some(value) => match step(value, serializer) {
-            Ok(done) => Ok(Some(done.0)),
-            Err(e) => Err(e),
-        },
+        Some(value) => Ok(Some(step(value, serializer)?.0)),
     }
 }
 

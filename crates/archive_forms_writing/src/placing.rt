@@ -43,10 +43,8 @@ pub fn align<W: Writer>(writer: &mut W, align: usize) -> Result<usize, Error>
     ensures aligned { IfOk result (λ pos. pos ≡ align_up (W.pos writer.old) align) }
 {
     let pos = writer.pos();
-    match pad(writer, padding(pos, align)) {
-        Ok(()) => Ok(writer.pos()),
-        Err(e) => Err(e),
-    }
+    pad(writer, padding(pos, align))?;
+    Ok(writer.pos())
 }
 
 /// Writes the own bytes of a value over `out`, which has only zeros. The value's data was written before.
@@ -78,10 +76,8 @@ fn write_through<T: Archive, W: Writer>(
     requires stands { W.pos writer.old + size_of T.Archived.shape < 2 ^ 64 }
     ensures { LaysOwn T.spelling T.Archived.shape W.Writer value.now resolver writer.old writer.new result }
 {
-    match resolve_into(value, resolver, writer.pos(), own) {
-        Ok(()) => writer.write(own),
-        Err(e) => Err(e),
-    }
+    resolve_into(value, resolver, writer.pos(), own)?;
+    writer.write(own)
 }
 
 /// Writes the own bytes of a value at the writer's position. The value's data was written before.

@@ -80,14 +80,8 @@ pub fn serialize_result_each<
     ensures { WritesData ⟦<Result<T, E> as Archive>⟧ S.Writer outcome.now serializer.old serializer.new result }
 {
     match outcome {
-        Ok(value) => match step(value, serializer) {
-            Ok(done) => Ok(Ok(done.0)),
-            Err(e) => Err(e),
-        },
-        Err(error) => match step_of_error(error, serializer) {
-            Ok(done) => Ok(Err(done.0)),
-            Err(e) => Err(e),
-        },
+        Ok(value) => Ok(Ok(step(value, serializer)?.0)),
+        Err(error) => Ok(Err(step_of_error(error, serializer)?.0)),
     }
 }
 

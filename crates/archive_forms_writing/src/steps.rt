@@ -44,14 +44,8 @@ impl<S: Writer + Allocator, K: Serialize<S>, V: Serialize<S>> EntryStep<K, V, By
         value: &V,
         serializer: &mut S,
     ) -> Result<(K::Resolver, V::Resolver), Error> {
-        let key = match key.serialize(serializer) {
-            Ok(done) => done,
-            Err(e) => return Err(e),
-        };
-        let value = match value.serialize(serializer) {
-            Ok(done) => done,
-            Err(e) => return Err(e),
-        };
+        let key = key.serialize(serializer)?;
+        let value = value.serialize(serializer)?;
         Ok((key, value))
     }
 }
@@ -80,14 +74,8 @@ impl<
         value: &V,
         serializer: &mut S,
     ) -> Result<(K::Resolver, A::Resolver), Error> {
-        let key = match (self.key)(key, serializer) {
-            Ok(done) => done.0,
-            Err(e) => return Err(e),
-        };
-        let value = match (self.value)(value, serializer) {
-            Ok(done) => done.0,
-            Err(e) => return Err(e),
-        };
+        let key = (self.key)(key, serializer)?.0;
+        let value = (self.value)(value, serializer)?.0;
         Ok((key, value))
     }
 }

@@ -60,10 +60,8 @@ pub fn serialize_from_str<S: Writer>(
     if pos > u32::MAX as usize {
         return Err(Error::PositionTooLarge);
     }
-    match serializer.write(value.as_bytes()) {
-        Ok(()) => Ok(StringResolver { pos }),
-        Err(e) => Err(e),
-    }
+    serializer.write(value.as_bytes())?;
+    Ok(StringResolver { pos })
 }
 
 impl<S: Writer + Allocator> Serialize<S> for String {

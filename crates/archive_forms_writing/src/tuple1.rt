@@ -33,9 +33,7 @@ impl<A: Archive> Archive for (A,) {
             pos,
             ..
         } = out;
-        if let Err(e) = resolve_field(&self.0, resolver.0, out, start, pos, 0) {
-            return Err(e);
-        }
+        resolve_field(&self.0, resolver.0, out, start, pos, 0)?;
         Ok(())
     }
 
@@ -54,10 +52,7 @@ pub fn serialize_tuple1_each<
     requires writes_first { StepWrites F.Fn (λ q. q.0) A.spelling S.Writer first }
     ensures { WritesData ⟦<(A,) as Archive>⟧ S.Writer tuple.now serializer.old serializer.new result }
 {
-    let a = match first(&tuple.0, serializer) {
-        Ok(done) => done.0,
-        Err(e) => return Err(e),
-    };
+    let a = first(&tuple.0, serializer)?.0;
     Ok((a,))
 }
 

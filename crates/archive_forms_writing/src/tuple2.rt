@@ -34,13 +34,8 @@ impl<A: Archive, B: Archive> Archive for (A, B) {
             pos,
             ..
         } = out;
-        let end = match resolve_field(&self.0, resolver.0, out, start, pos, 0) {
-            Ok(end) => end,
-            Err(e) => return Err(e),
-        };
-        if let Err(e) = resolve_field(&self.1, resolver.1, out, start, pos, end) {
-            return Err(e);
-        }
+        let end = resolve_field(&self.0, resolver.0, out, start, pos, 0)?;
+        resolve_field(&self.1, resolver.1, out, start, pos, end)?;
         Ok(())
     }
 
@@ -70,14 +65,8 @@ pub fn serialize_tuple2_each<
     requires writes_second { StepWrites G.Fn (λ q. q.0) B.spelling S.Writer second }
     ensures { WritesData ⟦<(A, B) as Archive>⟧ S.Writer tuple.now serializer.old serializer.new result }
 {
-    let a = match first(&tuple.0, serializer) {
-        Ok(done) => done.0,
-        Err(e) => return Err(e),
-    };
-    let b = match second(&tuple.1, serializer) {
-        Ok(done) => done.0,
-        Err(e) => return Err(e),
-    };
+    let a = first(&tuple.0, serializer)?.0;
+    let b = second(&tuple.1, serializer)?.0;
     Ok((a, b))
 }
 

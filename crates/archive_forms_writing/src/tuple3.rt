@@ -34,17 +34,9 @@ impl<A: Archive, B: Archive, C: Archive> Archive for (A, B, C) {
             pos,
             ..
         } = out;
-        let end = match resolve_field(&self.0, resolver.0, out, start, pos, 0) {
-            Ok(end) => end,
-            Err(e) => return Err(e),
-        };
-        let end = match resolve_field(&self.1, resolver.1, out, start, pos, end) {
-            Ok(end) => end,
-            Err(e) => return Err(e),
-        };
-        if let Err(e) = resolve_field(&self.2, resolver.2, out, start, pos, end) {
-            return Err(e);
-        }
+        let end = resolve_field(&self.0, resolver.0, out, start, pos, 0)?;
+        let end = resolve_field(&self.1, resolver.1, out, start, pos, end)?;
+        resolve_field(&self.2, resolver.2, out, start, pos, end)?;
         Ok(())
     }
 
@@ -80,18 +72,9 @@ pub fn serialize_tuple3_each<
     requires writes_third { StepWrites H.Fn (λ q. q.0) C.spelling S.Writer third }
     ensures { WritesData ⟦<(A, B, C) as Archive>⟧ S.Writer tuple.now serializer.old serializer.new result }
 {
-    let a = match first(&tuple.0, serializer) {
-        Ok(done) => done.0,
-        Err(e) => return Err(e),
-    };
-    let b = match second(&tuple.1, serializer) {
-        Ok(done) => done.0,
-        Err(e) => return Err(e),
-    };
-    let c = match third(&tuple.2, serializer) {
-        Ok(done) => done.0,
-        Err(e) => return Err(e),
-    };
+    let a = first(&tuple.0, serializer)?.0;
+    let b = second(&tuple.1, serializer)?.0;
+    let c = third(&tuple.2, serializer)?.0;
     Ok((a, b, c))
 }
 
@@ -101,18 +84,9 @@ impl<S: Writer + Allocator, A: Serialize<S>, B: Serialize<S>, C: Serialize<S>> S
         &self,
         serializer: &mut S,
     ) -> Result<(A::Resolver, B::Resolver, C::Resolver), Error> {
-        let a = match self.0.serialize(serializer) {
-            Ok(done) => done,
-            Err(e) => return Err(e),
-        };
-        let b = match self.1.serialize(serializer) {
-            Ok(done) => done,
-            Err(e) => return Err(e),
-        };
-        let c = match self.2.serialize(serializer) {
-            Ok(done) => done,
-            Err(e) => return Err(e),
-        };
+        let a = self.0.serialize(serializer)?;
+        let b = self.1.serialize(serializer)?;
+        let c = self.2.serialize(serializer)?;
         Ok((a, b, c))
     }
 }

@@ -34,21 +34,10 @@ impl<A: Archive, B: Archive, C: Archive, D: Archive> Archive for (A, B, C, D) {
             pos,
             ..
         } = out;
-        let end = match resolve_field(&self.0, resolver.0, out, start, pos, 0) {
-            Ok(end) => end,
-            Err(e) => return Err(e),
-        };
-        let end = match resolve_field(&self.1, resolver.1, out, start, pos, end) {
-            Ok(end) => end,
-            Err(e) => return Err(e),
-        };
-        let end = match resolve_field(&self.2, resolver.2, out, start, pos, end) {
-            Ok(end) => end,
-            Err(e) => return Err(e),
-        };
-        if let Err(e) = resolve_field(&self.3, resolver.3, out, start, pos, end) {
-            return Err(e);
-        }
+        let end = resolve_field(&self.0, resolver.0, out, start, pos, 0)?;
+        let end = resolve_field(&self.1, resolver.1, out, start, pos, end)?;
+        let end = resolve_field(&self.2, resolver.2, out, start, pos, end)?;
+        resolve_field(&self.3, resolver.3, out, start, pos, end)?;
         Ok(())
     }
 
@@ -90,22 +79,10 @@ pub fn serialize_tuple4_each<
     requires writes_fourth { StepWrites I.Fn (λ q. q.0) D.spelling S.Writer fourth }
     ensures { WritesData ⟦<(A, B, C, D) as Archive>⟧ S.Writer tuple.now serializer.old serializer.new result }
 {
-    let a = match first(&tuple.0, serializer) {
-        Ok(done) => done.0,
-        Err(e) => return Err(e),
-    };
-    let b = match second(&tuple.1, serializer) {
-        Ok(done) => done.0,
-        Err(e) => return Err(e),
-    };
-    let c = match third(&tuple.2, serializer) {
-        Ok(done) => done.0,
-        Err(e) => return Err(e),
-    };
-    let d = match fourth(&tuple.3, serializer) {
-        Ok(done) => done.0,
-        Err(e) => return Err(e),
-    };
+    let a = first(&tuple.0, serializer)?.0;
+    let b = second(&tuple.1, serializer)?.0;
+    let c = third(&tuple.2, serializer)?.0;
+    let d = fourth(&tuple.3, serializer)?.0;
     Ok((a, b, c, d))
 }
 
@@ -120,22 +97,10 @@ impl<
         &self,
         serializer: &mut S,
     ) -> Result<(A::Resolver, B::Resolver, C::Resolver, D::Resolver), Error> {
-        let a = match self.0.serialize(serializer) {
-            Ok(done) => done,
-            Err(e) => return Err(e),
-        };
-        let b = match self.1.serialize(serializer) {
-            Ok(done) => done,
-            Err(e) => return Err(e),
-        };
-        let c = match self.2.serialize(serializer) {
-            Ok(done) => done,
-            Err(e) => return Err(e),
-        };
-        let d = match self.3.serialize(serializer) {
-            Ok(done) => done,
-            Err(e) => return Err(e),
-        };
+        let a = self.0.serialize(serializer)?;
+        let b = self.1.serialize(serializer)?;
+        let c = self.2.serialize(serializer)?;
+        let d = self.3.serialize(serializer)?;
         Ok((a, b, c, d))
     }
 }

@@ -60,10 +60,8 @@ pub fn serialize_vec_each<
     requires writes { StepWrites F.Fn (λ q. q.0) T.spelling S.Writer step }
     ensures { WritesData ⟦<Vec<T> as Archive>⟧ S.Writer items.now serializer.old serializer.new result }
 {
-    match serialize_slice_each(items.as_slice(), serializer, step) {
-        Ok(pos) => Ok(VecResolver { pos }),
-        Err(e) => Err(e),
-    }
+    let pos = serialize_slice_each(items.as_slice(), serializer, step)?;
+    Ok(VecResolver { pos })
 }
 
 impl<S: Writer + Allocator, T: Serialize<S>> Serialize<S> for Vec<T> {

@@ -59,10 +59,8 @@ pub fn serialize_from_ref<U: SerializeUnsized<S>, S: Writer + Allocator>(
     requires state { HasState S.pos S.known serializer.old }
     ensures { Serializes (box_of U.pointed) S.Writer value.now serializer.old serializer.new result }
 {
-    match value.serialize_unsized(serializer) {
-        Ok(pos) => Ok(BoxResolver { pos }),
-        Err(e) => Err(e),
-    }
+    let pos = value.serialize_unsized(serializer)?;
+    Ok(BoxResolver { pos })
 }
 
 /// Writes the own bytes of the box of a borrowed value. The value and its data were written before.

@@ -47,10 +47,7 @@ pub fn serialize_from_iter_each<
     requires writes { StepWrites F.Fn (λ q. q.0) T.spelling S.Writer step }
     ensures { SerializesItems I.into_iter_gives I.IntoIter.next_gives T.Archived.shape T.spelling S.Writer iter len serializer.old serializer.new result }
 {
-    let items = match collect_items(serializer.memory(), iter) {
-        Ok(items) => items,
-        Err(e) => return Err(e),
-    };
+    let items = collect_items(serializer.memory(), iter)?;
     let actual = items.len();
     if actual != len {
         return Err(Error::IteratorLengthMismatch {
@@ -58,10 +55,8 @@ pub fn serialize_from_iter_each<
             actual,
         });
     }
-    match serialize_slice_each(items.as_slice(), serializer, step) {
-        Ok(pos) => Ok(VecResolver { pos }),
-        Err(e) => Err(e),
-    }
+    let pos = serialize_slice_each(items.as_slice(), serializer, step)?;
+    Ok(VecResolver { pos })
 }
 
 /// Writes the items of an iterator, with their data, as `serialize_from_iter_each` does.

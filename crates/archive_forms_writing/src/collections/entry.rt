@@ -60,13 +60,8 @@ impl<'a, K: Archive, V: Archive> Archive for EntryAdapter<'a, K, V> {
             pos,
             ..
         } = out;
-        let end = match resolve_field(self.key, resolver.key, out, start, pos, 0) {
-            Ok(end) => end,
-            Err(e) => return Err(e),
-        };
-        if let Err(e) = resolve_field(self.value, resolver.value, out, start, pos, end) {
-            return Err(e);
-        }
+        let end = resolve_field(self.key, resolver.key, out, start, pos, 0)?;
+        resolve_field(self.value, resolver.value, out, start, pos, end)?;
         Ok(())
     }
 
@@ -100,14 +95,8 @@ pub fn serialize_entry_each<
     requires writes_second { StepWrites G.Fn (λ q. q.0) V.spelling S.Writer second }
     ensures { WritesData ⟦<EntryAdapter<'a, K, V> as Archive>⟧ S.Writer entry.now serializer.old serializer.new result }
 {
-    let key = match first(entry.key, serializer) {
-        Ok(done) => done.0,
-        Err(e) => return Err(e),
-    };
-    let value = match second(entry.value, serializer) {
-        Ok(done) => done.0,
-        Err(e) => return Err(e),
-    };
+    let key = first(entry.key, serializer)?.0;
+    let value = second(entry.value, serializer)?.0;
     Ok(EntryResolver { key, value })
 }
 

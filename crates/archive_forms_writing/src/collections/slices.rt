@@ -19,7 +19,7 @@ pub fn serialize_from_slice<S: Writer + Allocator, T: Serialize<S>>(
     ensures { Serializes (elements_spelling T.Archived.shape T.spelling) S.Writer items.now
         serializer.old serializer.new result }
 {
-    let written = serialize_slice_each::<T, S, _>(
+    let pos = serialize_slice_each::<T, S, _>(
         items,
         serializer,
         |item: &T, s: &mut S| -> Result<(T::Resolver, PhantomData<T::Archived>), Error>
@@ -27,11 +27,8 @@ pub fn serialize_from_slice<S: Writer + Allocator, T: Serialize<S>>(
             requires state { HasState S.pos S.known s.old }
             ensures { SerializesBy (λ q. q.0) T.spelling S.Writer item.now s.old s.new result }
         { serialize_element(item, s) },
-    );
-    match written {
-        Ok(pos) => Ok(VecResolver { pos }),
-        Err(e) => Err(e),
-    }
+    )?;
+    Ok(VecResolver { pos })
 }
 
 /// Writes the own bytes of the vector of a slice's elements. Their data and their own bytes were written before.

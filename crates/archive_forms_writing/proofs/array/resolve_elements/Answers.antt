@@ -1,4 +1,4 @@
-use Rattle.std.proofs.Common.{arith, ◌≡◌, ◌<◌, length, ap, ◌∙◌}
+use Rattle.std.proofs.Common.{rules, Err, arith, ◌≡◌, ◌<◌, length, ap, ◌∙◌}
 use Rattle.archive_shape_canonical.specs.FirstFit.{first_fit}
 use Rattle.archive_forms_writing.proofs.Loops.{next_of, none_left, length-resolvers}
 use Rattle.archive_forms_writing.proofs.Arrays.{laid_none, laid_can, laid_next, laid_refused, laid_all, size_whole}
@@ -16,14 +16,15 @@ resolve_element-requires g c =
     laid_can g.T.Archived.Portable.shape g.T.Archive.spelling c.args.items.now c.args.kept.now c.args.out.now c.args.start c.args.pos _ _ e f c.loop-i.invariant
     (length c.args.items.now) c.loop-i-test.true c.requires.room c.requires.stands c.requires.blank
 
-pub returns-in-Err : goal.returns-in-Err
-returns-in-Err g c =
+pub returns-in_err-resolve_element : goal.returns-in_err-resolve_element
+returns-in_err-resolve_element g c =
     let n : length c.args.kept.now ≡ length c.args.items.now = ap length c.requires.made.1 ∙ length-resolvers g.T.Archive.spelling c.args.items.now c.requires.made.0 in
     let less : c.loop-i.i < length c.args.kept.now = omega (arith, n, c.loop-i-test.true) in
     let e = next_of _ _ _ c.loop-i-test.true c.index-items-i.is in
     let f = next_of _ _ _ less c.index-kept-i.is in
-    laid_refused g.T.Archived.Portable.shape g.T.Archive.spelling c.args.items.now c.args.kept.now c.args.out.now c.args.start c.args.pos _ _ e f c.loop-i.invariant
-    (length c.args.items.now) c.loop-i-test.true c.requires.room _ c.in-Err.ensures
+    let passed : c.from_residual.result ≡ Err c.in_err-resolve_element.field-0.0 = search rules in
+    rw passed (laid_refused g.T.Archived.Portable.shape g.T.Archive.spelling c.args.items.now c.args.kept.now c.args.out.now c.args.start c.args.pos _ _ e f c.loop-i.invariant
+    (length c.args.items.now) c.loop-i-test.true c.requires.room _ c.in_err-resolve_element.ensures)
 
 pub loop-i-preserved : goal.loop-i-preserved
 loop-i-preserved g c =
@@ -31,7 +32,7 @@ loop-i-preserved g c =
     let less : c.loop-i.i < length c.args.kept.now = omega (arith, n, c.loop-i-test.true) in
     let e = next_of _ _ _ c.loop-i-test.true c.index-items-i.is in
     let f = next_of _ _ _ less c.index-kept-i.is in
-    let h = c.in_default.ensures in
+    let h = c.in_ok-resolve_element.ensures in
     laid_next g.T.Archived.Portable.shape g.T.Archive.spelling c.args.items.now c.args.kept.now c.args.out.now c.args.start c.args.pos _ _ e f c.loop-i.invariant
     (length c.args.items.now) c.SIZE-size.result _ (λ fit. (g.met.T.Archive.spells (first_fit (λ _. 0)) c.index-items-i.result).sized _ _ fit) c.loop-i-test.true c.requires.room
     (size_whole _ _ _ _ _ c.loop-i-test.true (c.SIZE-size.ensures ∙ g.met.T.Archived.Portable.sized) c.requires.stands) h.0 h.1

@@ -1,4 +1,4 @@
-use Rattle.std.proofs.Common.{rules, arith, ◌≡◌, ◌+◌, ◌≤◌, length, ap, sym, ◌∙◌}
+use Rattle.std.proofs.Common.{Err, rules, arith, ◌≡◌, ◌+◌, ◌≤◌, length, ap, sym, ◌∙◌}
 use Rattle.archive_shape_layout.specs.Shape.{size_of}
 use Rattle.archive_shape_canonical.specs.FirstFit.{first_fit}
 use Rattle.archive_forms_writing.proofs.Loops.{next_of, none_left, length-resolvers}
@@ -38,12 +38,13 @@ offset_bounds-kept-i g c =
     let made = c.requires.made in
     let n : length c.args.kept.now ≡ length c.args.items.now = ap length made.1 ∙ length-resolvers (g.A.ArchiveWith.spelling c.args.with.now) c.args.items.now made.0 in omega (arith, c.loop-i-test.true, n)
 
-pub returns-in-Err : goal.returns-in-Err
-returns-in-Err g c = λ st is.
+pub returns-in_err-resolve_at : goal.returns-in_err-resolve_at
+returns-in_err-resolve_at g c = λ st is.
     let n : length c.args.kept.now ≡ length c.args.items.now = ap length is ∙ length-resolvers (g.A.ArchiveWith.spelling c.args.with.now) c.args.items.now st in
     let e = next_of _ _ _ c.loop-i-test.true c.index-items-i.is in
     let f = next_of c.args.kept.now c.loop-i.i _ (omega (arith, c.loop-i-test.true, n)) c.index-kept-i.is in
-    buffered_refuses _ _ _ _ _ _ _ c.loop-i.i _ c.loop-i.filled _ _ _ _ e f (c.loop-i.invariant.filling.placed st is) c.in-Err.ensures
+    let passed : c.from_residual.result ≡ Err c.in_err-resolve_at.field-0.0 = search rules in
+    rw passed (buffered_refuses _ _ _ _ _ _ _ c.loop-i.i _ c.loop-i.filled _ _ _ _ e f (c.loop-i.invariant.filling.placed st is) c.in_err-resolve_at.ensures)
 
 pub loop-i-preserved : goal.loop-i-preserved
 loop-i-preserved g c =
@@ -51,7 +52,7 @@ loop-i-preserved g c =
     let n : length c.args.kept.now ≡ length c.args.items.now = ap length made.1 ∙ length-resolvers (g.A.ArchiveWith.spelling c.args.with.now) c.args.items.now made.0 in
     let e = next_of _ _ _ c.loop-i-test.true c.index-items-i.is in
     let f = next_of c.args.kept.now c.loop-i.i _ (omega (arith, c.loop-i-test.true, n)) c.index-kept-i.is in
-    let fit = c.in_default.ensures.0 in
+    let fit = c.in_ok-resolve_at.ensures.0 in
     let sh = g.A.Archived.Portable.shape in
     let x = c.index-items-i.result in
     let k = c.index-kept-i.result in
@@ -59,7 +60,7 @@ loop-i-preserved g c =
     let size : c.SIZE-size.result ≡ size_of sh = omega (arith, fit.1, c.SIZE-size.ensures, g.met.A.Archived.Portable.sized) in
     let own = (g.met.A.ArchiveWith.spells c.args.with.now (first_fit (λ _. 0)) x).sized k (c.args.pos + at) fit.0 in
     let within = next_within c.loop-i.i (length c.args.items.now) (size_of sh) c.loop-i-test.true in
-    let next = filling_next _ _ _ _ _ _ c.loop-i.i _ at c.SIZE-size.result c.loop-i.buffer c.resolve_at.new.buffer x k e f (omega (arith, within, size, c.loop-i.invariant.counted, c.loop-i.invariant.same, c.requires.room)) c.loop-i.invariant.filling (size ∙ sym own) c.in_default.ensures.1 fit in
+    let next = filling_next _ _ _ _ _ _ c.loop-i.i _ at c.SIZE-size.result c.loop-i.buffer c.resolve_at.new.buffer x k e f (omega (arith, within, size, c.loop-i.invariant.counted, c.loop-i.invariant.same, c.requires.room)) c.loop-i.invariant.filling (size ∙ sym own) c.in_ok-resolve_at.ensures.1 fit in
     record { same = search rules; counted = omega (arith, size, c.loop-i.invariant.counted); filling = next }
 
 pub returns : goal.returns

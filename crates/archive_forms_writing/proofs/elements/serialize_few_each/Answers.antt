@@ -1,17 +1,18 @@
-use Rattle.std.proofs.Common.{◌≡◌, arith, ◌<◌, ◌≤◌, ◌+◌, List, sym, ap, ◌∙◌, ◌∷◌, [], ◌++◌, subst, length, length-set, take}
+use Rattle.std.proofs.Common.{rules, Err, ◌≡◌, arith, ◌<◌, ◌≤◌, ◌+◌, List, sym, ap, ◌∙◌, ◌∷◌, [], ◌++◌, subst, length, length-set, take}
 use Rattle.std.proofs.lemmas.List.{length-replicate}
 use Rattle.archive_shape_layout.specs.Writing.{WriterMembers}
 use Rattle.archive_forms_writing.proofs.Loops.{Reached, next_of, none_left, reached_first, first_stopped, reached_next, reached_stopped, reached_all}
 use Rattle.archive_forms_writing.proofs.Arrays.{take_set, take_one}
 use Rattle.archive_forms_writing.proofs.elements.serialize_few_each.Goals as goal
 
-pub returns-in-Err : goal.returns-in-Err
-returns-in-Err g c = λ st at.
+pub returns-in_err-first : goal.returns-in_err-first
+returns-in_err-first g c = λ st at.
     let some : 0 < length c.args.items.now = c.requires.some in
     let e = next_of c.args.items.now 0 _ some c.index-items-0.is in
     let s : WriterMembers g.row.S.Denot = record { known = g.S.Registry.known; pos = g.S.Positional.pos; OBSERVABLE = g.S.Writer.OBSERVABLE; COUNTS = g.S.Writer.COUNTS; contents = g.S.Writer.contents; failures = g.S.Writer.failures; last_error = g.S.Writer.last_error } in
-    let h = c.requires.writes _ _ _ _ c.requires.room c.requires.state c.in-Err.ensures st at in
-    first_stopped (g.A.ArchiveWith.spelling c.args.with.now) s c.args.items.now _ st _ _ _ e at h
+    let h = c.requires.writes _ _ _ _ c.requires.room c.requires.state c.in_err-first.ensures st at in
+    let passed : c.from_residual.result ≡ Err c.in_err-first.field-0.0 = search rules in
+    rw passed (first_stopped (g.A.ArchiveWith.spelling c.args.with.now) s c.args.items.now _ st _ _ _ e at h)
 
 pub loop-i-init : goal.loop-i-init
 loop-i-init g c =
@@ -20,13 +21,13 @@ loop-i-init g c =
     let e = next_of c.args.items.now 0 _ some c.index-items-0.is in
     let s : WriterMembers g.row.S.Denot = record { known = g.S.Registry.known; pos = g.S.Positional.pos; OBSERVABLE = g.S.Writer.OBSERVABLE; COUNTS = g.S.Writer.COUNTS; contents = g.S.Writer.contents; failures = g.S.Writer.failures; last_error = g.S.Writer.last_error } in
     record {
-      whole = length-replicate 16 c.in-Ok.done.0;
+      whole = length-replicate 16 c.in_ok-first.field-0.0;
       within = some;
       reached = λ st at.
           let P : List g.row.A-Resolver.Denot → Type 0 = λ l. Reached (g.A.ArchiveWith.spelling c.args.with.now) s c.args.items.now c.args.serializer.now st 1 c.step.new.arg3 l in
-          let l = c.requires.writes _ _ _ _ c.requires.room c.requires.state c.in-Ok.ensures st at in
+          let l = c.requires.writes _ _ _ _ c.requires.room c.requires.state c.in_ok-first.ensures st at in
           let z = reached_first (g.A.ArchiveWith.spelling c.args.with.now) s c.args.items.now _ st _ _ e at l.0 l.1.1 l.1.2 in
-          subst P (sym (take_one 16 c.in-Ok.done.0 more ∙ ap (λ q. q ∷ []) l.1.0)) z;
+          subst P (sym (take_one 16 c.in_ok-first.field-0.0 more ∙ ap (λ q. q ∷ []) l.1.0)) z;
     }
 
 pub step-requires-in-loop-i : goal.step-requires-in-loop-i
@@ -35,12 +36,13 @@ step-requires-in-loop-i g c =
     let less : c.loop-i.i < length c.args.items.now = c.loop-i-test.true in
     c.requires.takes _ _ (c.loop-i.i, less, c.index-items-i.is) (omega (arith, r.wrote.is_quiet, c.requires.room)) (record { state = r.left; is_at = r.is_at })
 
-pub returns-in-Err-step : goal.returns-in-Err-step
-returns-in-Err-step g c = λ st at.
+pub returns-in_err-kept : goal.returns-in_err-kept
+returns-in_err-kept g c = λ st at.
     let r = c.loop-i.invariant.reached st at in
     let less : c.loop-i.i < length c.args.items.now = c.loop-i-test.true in
-    let h = c.requires.writes _ _ _ _ (omega (arith, r.wrote.is_quiet, c.requires.room)) (record { state = r.left; is_at = r.is_at }) c.in-Err-step.ensures r.left r.is_at in
-    reached_stopped _ _ _ _ _ c.loop-i.i _ _ _ _ _ (next_of c.args.items.now c.loop-i.i _ less c.index-items-i.is) r h
+    let h = c.requires.writes _ _ _ _ (omega (arith, r.wrote.is_quiet, c.requires.room)) (record { state = r.left; is_at = r.is_at }) c.in_err-kept.ensures r.left r.is_at in
+    let passed : c.from_residual-in_err-kept.result ≡ Err c.in_err-kept.field-0.0 = search rules in
+    rw passed (reached_stopped _ _ _ _ _ c.loop-i.i _ _ _ _ _ (next_of c.args.items.now c.loop-i.i _ less c.index-items-i.is) r h)
 
 pub loop-i-preserved : goal.loop-i-preserved
 loop-i-preserved g c =
@@ -54,9 +56,9 @@ loop-i-preserved g c =
       reached = λ st at.
           let P : List g.row.A-Resolver.Denot → Type 0 = λ l. Reached (g.A.ArchiveWith.spelling c.args.with.now) (record { known = g.S.Registry.known; pos = g.S.Positional.pos; OBSERVABLE = g.S.Writer.OBSERVABLE; COUNTS = g.S.Writer.COUNTS; contents = g.S.Writer.contents; failures = g.S.Writer.failures; last_error = g.S.Writer.last_error }) c.args.items.now c.args.serializer.now st (c.loop-i.i + 1) c.step-in-loop-i.new.arg3 l in
           let r = c.loop-i.invariant.reached st at in
-          let l = c.requires.writes _ _ _ _ (omega (arith, r.wrote.is_quiet, c.requires.room)) (record { state = r.left; is_at = r.is_at }) c.in-Ok-step.ensures r.left r.is_at in
+          let l = c.requires.writes _ _ _ _ (omega (arith, r.wrote.is_quiet, c.requires.room)) (record { state = r.left; is_at = r.is_at }) c.in_ok-kept.ensures r.left r.is_at in
           let z = reached_next _ _ _ _ _ c.loop-i.i _ _ _ _ e r l.0 l.1.1 l.1.2 in
-          subst P (sym (take_set c.loop-i.kept c.loop-i.i c.in-Ok-step.done.0 inside ∙ ap (λ q. before ++ (q ∷ [])) l.1.0)) z;
+          subst P (sym (take_set c.loop-i.kept c.loop-i.i c.in_ok-kept.field-0.0 inside ∙ ap (λ q. before ++ (q ∷ [])) l.1.0)) z;
     }
 
 pub returns : goal.returns

@@ -12,5 +12,5 @@ moved n old now mid align x a b c d =
     let e : align_up mid align ≡ align_up old align = ap (λ m. align_up m align) c in
     omega arith
 
-pub returns-in-Ok-clause-aligned : goal.returns-in-Ok-clause-aligned
-returns-in-Ok-clause-aligned g c = moved _ _ _ _ c.args.align _ c.pos.ensures c.in-Ok.ensures.moves c.pos-pos.ensures c.padding.ensures.gap
+pub returns-clause-aligned : goal.returns-clause-aligned
+returns-clause-aligned g c = moved _ _ _ _ c.args.align _ c.pos.ensures c.in_ok-pad.ensures.moves c.pos-pos.ensures c.padding.ensures.gap

@@ -1,5 +1,5 @@
 use Rattle.std.proofs.Common.{ap}
 use Rattle.archive_forms_writing.proofs.boxing.unsized_values.serialize_from_ref.Goals as goal
 
-pub returns-in-Ok : goal.returns-in-Ok
-returns-in-Ok g c = λ st at. let h = c.in-Ok.ensures st at in (h.0, (ap (λ n. record { pos = n }) h.1.0, h.1.1, h.1.2))
+pub returns : goal.returns
+returns g c = λ st at. let h = c.in_ok-pos.ensures st at in (h.0, (ap (λ n. record { pos = n }) h.1.0, h.1.1, h.1.2))

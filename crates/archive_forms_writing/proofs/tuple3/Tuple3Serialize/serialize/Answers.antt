@@ -1,11 +1,11 @@
-use Rattle.std.proofs.Common.{arith, ap}
+use Rattle.std.proofs.Common.{rules, ◌≡◌, Err, arith, ap}
 use Rattle.archive_shape_layout.specs.Writing.{WriterMembers}
 use Rattle.archive_forms_laws.specs.Fields.{no_fields, more_fields}
 use Rattle.archive_forms_writing.proofs.Structs.{reached_none, reached_next, reached_stopped, reached_all}
 use Rattle.archive_forms_writing.proofs.tuple3.Tuple3Serialize.serialize.Goals as goal
 
-pub returns-in-Err : goal.returns-in-Err
-returns-in-Err g c = λ st at.
+pub returns-in_err-a : goal.returns-in_err-a
+returns-in_err-a g c = λ st at.
     let m : WriterMembers g.row.S.Denot = record { known = g.S.Registry.known; pos = g.S.Positional.pos; OBSERVABLE = g.S.Writer.OBSERVABLE; COUNTS = g.S.Writer.COUNTS; contents = g.S.Writer.contents; failures = g.S.Writer.failures; last_error = g.S.Writer.last_error } in
     let from_third = more_fields g.C.Archived.Portable.shape g.C.Archive.spelling no_fields in
     let from_second = more_fields g.B.Archived.Portable.shape g.B.Archive.spelling from_third in
@@ -13,7 +13,8 @@ returns-in-Err g c = λ st at.
     let x : g.row.A.Denot × (g.row.B.Denot × (g.row.C.Denot × Unit {0})) = (c.args.self.now.0, (c.args.self.now.1, (c.args.self.now.2, tt {0}))) in
     let old = c.args.serializer.now in
     let none = reached_none m all x old st at in
-    reached_stopped m all x old st g.A.Archived.Portable.shape g.A.Archive.spelling from_second x _ st old none _ _ (c.in-Err.ensures st at)
+    let passed : c.from_residual.result ≡ Err c.in_err-a.field-0.0 = search rules in
+    rw passed (reached_stopped m all x old st g.A.Archived.Portable.shape g.A.Archive.spelling from_second x _ st old none _ _ (c.in_err-a.ensures st at))
 
 pub serialize-requires-2-clause-room : goal.serialize-requires-2-clause-room
 serialize-requires-2-clause-room g c =
@@ -27,7 +28,7 @@ serialize-requires-2-clause-room g c =
     let st = c.requires.state.state in
     let at = c.requires.state.is_at in
     let none = reached_none m all x old st at in
-    let by_first = c.in-Ok.ensures st at in
+    let by_first = c.in_ok-a.ensures st at in
     let one = reached_next m all x old st g.A.Archived.Portable.shape g.A.Archive.spelling from_second x _ st old none _ _ by_first.0 by_first.1.0 by_first.1.1 by_first.1.2 in
     let quiet_one = one.wrote.is_quiet in
     omega arith
@@ -43,12 +44,12 @@ serialize-requires-2-clause-state g c =
     let st = c.requires.state.state in
     let at = c.requires.state.is_at in
     let none = reached_none m all x old st at in
-    let by_first = c.in-Ok.ensures st at in
+    let by_first = c.in_ok-a.ensures st at in
     let one = reached_next m all x old st g.A.Archived.Portable.shape g.A.Archive.spelling from_second x _ st old none _ _ by_first.0 by_first.1.0 by_first.1.1 by_first.1.2 in
     record { state = _; is_at = one.is_at }
 
-pub returns-in-Err-serialize : goal.returns-in-Err-serialize
-returns-in-Err-serialize g c = λ st at.
+pub returns-in_err-b : goal.returns-in_err-b
+returns-in_err-b g c = λ st at.
     let m : WriterMembers g.row.S.Denot = record { known = g.S.Registry.known; pos = g.S.Positional.pos; OBSERVABLE = g.S.Writer.OBSERVABLE; COUNTS = g.S.Writer.COUNTS; contents = g.S.Writer.contents; failures = g.S.Writer.failures; last_error = g.S.Writer.last_error } in
     let from_third = more_fields g.C.Archived.Portable.shape g.C.Archive.spelling no_fields in
     let from_second = more_fields g.B.Archived.Portable.shape g.B.Archive.spelling from_third in
@@ -56,9 +57,10 @@ returns-in-Err-serialize g c = λ st at.
     let x : g.row.A.Denot × (g.row.B.Denot × (g.row.C.Denot × Unit {0})) = (c.args.self.now.0, (c.args.self.now.1, (c.args.self.now.2, tt {0}))) in
     let old = c.args.serializer.now in
     let none = reached_none m all x old st at in
-    let by_first = c.in-Ok.ensures st at in
+    let by_first = c.in_ok-a.ensures st at in
     let one = reached_next m all x old st g.A.Archived.Portable.shape g.A.Archive.spelling from_second x _ st old none _ _ by_first.0 by_first.1.0 by_first.1.1 by_first.1.2 in
-    reached_stopped m all x old st g.B.Archived.Portable.shape g.B.Archive.spelling from_third x.1 _ _ _ one _ _ (c.in-Err-serialize.ensures _ one.is_at)
+    let passed : c.from_residual-in_err-b.result ≡ Err c.in_err-b.field-0.0 = search rules in
+    rw passed (reached_stopped m all x old st g.B.Archived.Portable.shape g.B.Archive.spelling from_third x.1 _ _ _ one _ _ (c.in_err-b.ensures _ one.is_at))
 
 pub serialize-requires-3-clause-room : goal.serialize-requires-3-clause-room
 serialize-requires-3-clause-room g c =
@@ -72,10 +74,10 @@ serialize-requires-3-clause-room g c =
     let st = c.requires.state.state in
     let at = c.requires.state.is_at in
     let none = reached_none m all x old st at in
-    let by_first = c.in-Ok.ensures st at in
+    let by_first = c.in_ok-a.ensures st at in
     let one = reached_next m all x old st g.A.Archived.Portable.shape g.A.Archive.spelling from_second x _ st old none _ _ by_first.0 by_first.1.0 by_first.1.1 by_first.1.2 in
     let quiet_one = one.wrote.is_quiet in
-    let by_second = c.in-Ok-serialize.ensures _ one.is_at in
+    let by_second = c.in_ok-b.ensures _ one.is_at in
     let two = reached_next m all x old st g.B.Archived.Portable.shape g.B.Archive.spelling from_third x.1 _ _ _ one _ _ by_second.0 by_second.1.0 by_second.1.1 by_second.1.2 in
     let quiet_two = two.wrote.is_quiet in
     omega arith
@@ -91,14 +93,14 @@ serialize-requires-3-clause-state g c =
     let st = c.requires.state.state in
     let at = c.requires.state.is_at in
     let none = reached_none m all x old st at in
-    let by_first = c.in-Ok.ensures st at in
+    let by_first = c.in_ok-a.ensures st at in
     let one = reached_next m all x old st g.A.Archived.Portable.shape g.A.Archive.spelling from_second x _ st old none _ _ by_first.0 by_first.1.0 by_first.1.1 by_first.1.2 in
-    let by_second = c.in-Ok-serialize.ensures _ one.is_at in
+    let by_second = c.in_ok-b.ensures _ one.is_at in
     let two = reached_next m all x old st g.B.Archived.Portable.shape g.B.Archive.spelling from_third x.1 _ _ _ one _ _ by_second.0 by_second.1.0 by_second.1.1 by_second.1.2 in
     record { state = _; is_at = two.is_at }
 
-pub returns-in-Err-serialize-2 : goal.returns-in-Err-serialize-2
-returns-in-Err-serialize-2 g c = λ st at.
+pub returns-in_err-c : goal.returns-in_err-c
+returns-in_err-c g c = λ st at.
     let m : WriterMembers g.row.S.Denot = record { known = g.S.Registry.known; pos = g.S.Positional.pos; OBSERVABLE = g.S.Writer.OBSERVABLE; COUNTS = g.S.Writer.COUNTS; contents = g.S.Writer.contents; failures = g.S.Writer.failures; last_error = g.S.Writer.last_error } in
     let from_third = more_fields g.C.Archived.Portable.shape g.C.Archive.spelling no_fields in
     let from_second = more_fields g.B.Archived.Portable.shape g.B.Archive.spelling from_third in
@@ -106,11 +108,12 @@ returns-in-Err-serialize-2 g c = λ st at.
     let x : g.row.A.Denot × (g.row.B.Denot × (g.row.C.Denot × Unit {0})) = (c.args.self.now.0, (c.args.self.now.1, (c.args.self.now.2, tt {0}))) in
     let old = c.args.serializer.now in
     let none = reached_none m all x old st at in
-    let by_first = c.in-Ok.ensures st at in
+    let by_first = c.in_ok-a.ensures st at in
     let one = reached_next m all x old st g.A.Archived.Portable.shape g.A.Archive.spelling from_second x _ st old none _ _ by_first.0 by_first.1.0 by_first.1.1 by_first.1.2 in
-    let by_second = c.in-Ok-serialize.ensures _ one.is_at in
+    let by_second = c.in_ok-b.ensures _ one.is_at in
     let two = reached_next m all x old st g.B.Archived.Portable.shape g.B.Archive.spelling from_third x.1 _ _ _ one _ _ by_second.0 by_second.1.0 by_second.1.1 by_second.1.2 in
-    reached_stopped m all x old st g.C.Archived.Portable.shape g.C.Archive.spelling no_fields x.1.1 _ _ _ two _ _ (c.in-Err-serialize-2.ensures _ two.is_at)
+    let passed : c.from_residual-in_err-c.result ≡ Err c.in_err-c.field-0.0 = search rules in
+    rw passed (reached_stopped m all x old st g.C.Archived.Portable.shape g.C.Archive.spelling no_fields x.1.1 _ _ _ two _ _ (c.in_err-c.ensures _ two.is_at))
 
 pub returns : goal.returns
 returns g c = λ st at.
@@ -121,11 +124,11 @@ returns g c = λ st at.
     let x : g.row.A.Denot × (g.row.B.Denot × (g.row.C.Denot × Unit {0})) = (c.args.self.now.0, (c.args.self.now.1, (c.args.self.now.2, tt {0}))) in
     let old = c.args.serializer.now in
     let none = reached_none m all x old st at in
-    let by_first = c.in-Ok.ensures st at in
+    let by_first = c.in_ok-a.ensures st at in
     let one = reached_next m all x old st g.A.Archived.Portable.shape g.A.Archive.spelling from_second x _ st old none _ _ by_first.0 by_first.1.0 by_first.1.1 by_first.1.2 in
-    let by_second = c.in-Ok-serialize.ensures _ one.is_at in
+    let by_second = c.in_ok-b.ensures _ one.is_at in
     let two = reached_next m all x old st g.B.Archived.Portable.shape g.B.Archive.spelling from_third x.1 _ _ _ one _ _ by_second.0 by_second.1.0 by_second.1.1 by_second.1.2 in
-    let by_third = c.in-Ok-serialize-2.ensures _ two.is_at in
+    let by_third = c.in_ok-c.ensures _ two.is_at in
     let three = reached_next m all x old st g.C.Archived.Portable.shape g.C.Archive.spelling no_fields x.1.1 _ _ _ two _ _ by_third.0 by_third.1.0 by_third.1.1 by_third.1.2 in
     let done = reached_all m all x old st _ _ _ _ three in
     (done.0, (ap (λ r. (r.0, r.1.0, r.1.1.0)) done.1.0, done.1.1, done.1.2))

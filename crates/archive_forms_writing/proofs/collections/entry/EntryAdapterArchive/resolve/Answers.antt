@@ -1,4 +1,4 @@
-use Rattle.std.proofs.Common.{ap, ◌+◌}
+use Rattle.std.proofs.Common.{rules, ◌≡◌, Err, ap, ◌+◌}
 use Rattle.archive_shape_layout.specs.Shape.Shape.{tuple}
 use Rattle.archive_shape_canonical.specs.FirstFit.{first_fit}
 use Rattle.archive_forms_laws.specs.Fields.{no_fields, more_fields, struct_spelling}
@@ -23,8 +23,8 @@ resolve_field-requires g c =
     let none = placed_none all x r _ _ _ can in
     placed_can all x r _ _ _ can g.K.Archived.Portable.shape g.K.Archive.spelling of_value x r 0 _ none
 
-pub returns-in-Err : goal.returns-in-Err
-returns-in-Err g c =
+pub returns-in_err-end : goal.returns-in_err-end
+returns-in_err-end g c =
     let of_value = more_fields g.V.Archived.Portable.shape g.V.Archive.spelling no_fields in
     let all = more_fields g.K.Archived.Portable.shape g.K.Archive.spelling of_value in
     let x : g.row.K.Denot × (g.row.V.Denot × Unit {0}) = (c.args.self.now.key.now, (c.args.self.now.value.now, tt {0})) in
@@ -32,7 +32,8 @@ returns-in-Err g c =
     let can : CanResolve (struct_spelling all) (tuple all.shapes) x r c.args.out.out.now c.args.out.start c.args.out.pos =
     record { room = c.requires.room; stands = c.requires.stands; blank = c.requires.blank; made = (c.requires.made.0, ap split c.requires.made.1) } in
     let none = placed_none all x r _ _ _ can in
-    placed_stopped all x r _ _ _ can g.K.Archived.Portable.shape g.K.Archive.spelling of_value x r 0 _ none _ c.in-Err.ensures
+    let passed : c.from_residual.result ≡ Err c.in_err-end.field-0.0 = search rules in
+    rw passed (placed_stopped all x r _ _ _ can g.K.Archived.Portable.shape g.K.Archive.spelling of_value x r 0 _ none _ c.in_err-end.ensures)
 
 pub resolve_field-requires-2 : goal.resolve_field-requires-2
 resolve_field-requires-2 g c =
@@ -43,11 +44,11 @@ resolve_field-requires-2 g c =
     let can : CanResolve (struct_spelling all) (tuple all.shapes) x r c.args.out.out.now c.args.out.start c.args.out.pos =
     record { room = c.requires.room; stands = c.requires.stands; blank = c.requires.blank; made = (c.requires.made.0, ap split c.requires.made.1) } in
     let none = placed_none all x r _ _ _ can in
-    let one = placed_next all x r _ _ _ can g.K.Archived.Portable.shape g.K.Archive.spelling of_value x r 0 _ none c.resolve_field.new.out c.in-Ok.end ((g.met.K.Archive.spells (first_fit (λ _. 0)) x.0).sized r.0 (c.args.out.pos + field_at g.K.Archived.Portable.shape 0) c.in-Ok.ensures.1) c.in-Ok.ensures in
+    let one = placed_next all x r _ _ _ can g.K.Archived.Portable.shape g.K.Archive.spelling of_value x r 0 _ none c.resolve_field.new.out c.in_ok-end.end ((g.met.K.Archive.spells (first_fit (λ _. 0)) x.0).sized r.0 (c.args.out.pos + field_at g.K.Archived.Portable.shape 0) c.in_ok-end.ensures.1) c.in_ok-end.ensures in
     placed_can all x r _ _ _ can g.V.Archived.Portable.shape g.V.Archive.spelling no_fields x.1 r.1 _ _ one
 
-pub returns-in-Err-resolve_field : goal.returns-in-Err-resolve_field
-returns-in-Err-resolve_field g c =
+pub returns-in_err-resolve_field : goal.returns-in_err-resolve_field
+returns-in_err-resolve_field g c =
     let of_value = more_fields g.V.Archived.Portable.shape g.V.Archive.spelling no_fields in
     let all = more_fields g.K.Archived.Portable.shape g.K.Archive.spelling of_value in
     let x : g.row.K.Denot × (g.row.V.Denot × Unit {0}) = (c.args.self.now.key.now, (c.args.self.now.value.now, tt {0})) in
@@ -55,8 +56,9 @@ returns-in-Err-resolve_field g c =
     let can : CanResolve (struct_spelling all) (tuple all.shapes) x r c.args.out.out.now c.args.out.start c.args.out.pos =
     record { room = c.requires.room; stands = c.requires.stands; blank = c.requires.blank; made = (c.requires.made.0, ap split c.requires.made.1) } in
     let none = placed_none all x r _ _ _ can in
-    let one = placed_next all x r _ _ _ can g.K.Archived.Portable.shape g.K.Archive.spelling of_value x r 0 _ none c.resolve_field.new.out c.in-Ok.end ((g.met.K.Archive.spells (first_fit (λ _. 0)) x.0).sized r.0 (c.args.out.pos + field_at g.K.Archived.Portable.shape 0) c.in-Ok.ensures.1) c.in-Ok.ensures in
-    placed_stopped all x r _ _ _ can g.V.Archived.Portable.shape g.V.Archive.spelling no_fields x.1 r.1 _ _ one _ c.in-Err-resolve_field.ensures
+    let one = placed_next all x r _ _ _ can g.K.Archived.Portable.shape g.K.Archive.spelling of_value x r 0 _ none c.resolve_field.new.out c.in_ok-end.end ((g.met.K.Archive.spells (first_fit (λ _. 0)) x.0).sized r.0 (c.args.out.pos + field_at g.K.Archived.Portable.shape 0) c.in_ok-end.ensures.1) c.in_ok-end.ensures in
+    let passed : c.from_residual-in_err-resolve_field.result ≡ Err c.in_err-resolve_field.field-0.0 = search rules in
+    rw passed (placed_stopped all x r _ _ _ can g.V.Archived.Portable.shape g.V.Archive.spelling no_fields x.1 r.1 _ _ one _ c.in_err-resolve_field.ensures)
 
 pub returns : goal.returns
 returns g c =
@@ -67,6 +69,6 @@ returns g c =
     let can : CanResolve (struct_spelling all) (tuple all.shapes) x r c.args.out.out.now c.args.out.start c.args.out.pos =
     record { room = c.requires.room; stands = c.requires.stands; blank = c.requires.blank; made = (c.requires.made.0, ap split c.requires.made.1) } in
     let none = placed_none all x r _ _ _ can in
-    let one = placed_next all x r _ _ _ can g.K.Archived.Portable.shape g.K.Archive.spelling of_value x r 0 _ none c.resolve_field.new.out c.in-Ok.end ((g.met.K.Archive.spells (first_fit (λ _. 0)) x.0).sized r.0 (c.args.out.pos + field_at g.K.Archived.Portable.shape 0) c.in-Ok.ensures.1) c.in-Ok.ensures in
-    let two = placed_next all x r _ _ _ can g.V.Archived.Portable.shape g.V.Archive.spelling no_fields x.1 r.1 _ _ one c.resolve_field-2.new.out c.in_default.field-0 ((g.met.V.Archive.spells (first_fit (λ _. 0)) x.1.0).sized r.1.0 (c.args.out.pos + field_at g.V.Archived.Portable.shape c.in-Ok.end) c.in_default.ensures.1) c.in_default.ensures in
+    let one = placed_next all x r _ _ _ can g.K.Archived.Portable.shape g.K.Archive.spelling of_value x r 0 _ none c.resolve_field.new.out c.in_ok-end.end ((g.met.K.Archive.spells (first_fit (λ _. 0)) x.0).sized r.0 (c.args.out.pos + field_at g.K.Archived.Portable.shape 0) c.in_ok-end.ensures.1) c.in_ok-end.ensures in
+    let two = placed_next all x r _ _ _ can g.V.Archived.Portable.shape g.V.Archive.spelling no_fields x.1 r.1 _ _ one c.resolve_field-2.new.out c.in_ok-resolve_field.field-0 ((g.met.V.Archive.spells (first_fit (λ _. 0)) x.1.0).sized r.1.0 (c.args.out.pos + field_at g.V.Archived.Portable.shape c.in_ok-end.end) c.in_ok-resolve_field.ensures.1) c.in_ok-resolve_field.ensures in
     placed_all all x r _ _ _ can _ _ _ two
