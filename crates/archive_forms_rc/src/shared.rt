@@ -87,16 +87,10 @@ pub fn check_rc_each<
     let Some(target) = RawRelPtrI32::target(Ref::new(bytes, pos)) else {
         return Err(Error::InvalidSubtreePointer { size });
     };
-    let is_first = match visit::<T, L, C>(alloc, context, target, 1) {
-        Ok(is_first) => is_first,
-        Err(e) => return Err(e),
-    };
-    if !is_first {
+    if !visit::<T, L, C>(alloc, context, target, 1)? {
         return Ok(());
     }
-    if let Err(e) = check_behind_each::<T, C, F>(bytes, target, context, step) {
-        return Err(e);
-    }
+    check_behind_each::<T, C, F>(bytes, target, context, step)?;
     context.finish_shared(target)
 }
 

@@ -87,17 +87,11 @@ pub fn check_rc_slice_each<
     let Some(target) = RelPtr::target(pointer) else {
         return Err(Error::InvalidSubtreePointer { size });
     };
-    let is_first = match visit::<Slice<T>, L, C>(alloc, context, target, len) {
-        Ok(is_first) => is_first,
-        Err(e) => return Err(e),
-    };
-    if !is_first {
+    if !visit::<Slice<T>, L, C>(alloc, context, target, len)? {
         return Ok(());
     }
     // The pointer has the own bytes of a vector.
-    if let Err(e) = check_vec_each::<T, C, F>(bytes, pos, context, step) {
-        return Err(e);
-    }
+    check_vec_each::<T, C, F>(bytes, pos, context, step)?;
     context.finish_shared(target)
 }
 

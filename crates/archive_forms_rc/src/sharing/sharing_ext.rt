@@ -38,8 +38,6 @@ pub fn serialize_rc_from_ref<U: SerializeUnsized<S>, S: SharingExt>(
     ensures { Serializes (rc_of (shared_spelling U.Archived.pointee U.count (λ _. key) U.pointed))
         S.Writer value.now serializer.old serializer.new result }
 {
-    match serializer.serialize_shared(key, value) {
-        Ok(pos) => Ok(RcResolver { pos }),
-        Err(e) => Err(e),
-    }
+    let pos = serializer.serialize_shared(key, value)?;
+    Ok(RcResolver { pos })
 }

@@ -56,10 +56,8 @@ impl<T: Portable> ArchivedRcWeak<T, RcFlavor> {
         requires state { HasState S.pos S.known serializer.old }
         ensures { WritesWeak T.shape U.spelling S.Writer value.now serializer.old serializer.new result }
     {
-        match value.serialize(serializer) {
-            Ok(resolver) => Ok(RcWeakResolver::from_option(resolver)),
-            Err(e) => Err(e),
-        }
+        let resolver = value.serialize(serializer)?;
+        Ok(RcWeakResolver::from_option(resolver))
     }
 }
 
@@ -96,10 +94,8 @@ impl<T: Portable> ArchivedRcWeakSlice<T, RcFlavor> {
         requires state { HasState S.pos S.known serializer.old }
         ensures { WritesWeakSlice T.shape U.spelling S.Writer value.now serializer.old serializer.new result }
     {
-        match value.serialize(serializer) {
-            Ok(resolver) => Ok(RcWeakResolver::from_option(resolver)),
-            Err(e) => Err(e),
-        }
+        let resolver = value.serialize(serializer)?;
+        Ok(RcWeakResolver::from_option(resolver))
     }
 }
 
@@ -137,10 +133,8 @@ impl ArchivedRcWeakStr<RcFlavor> {
         ensures { Serializes weak_str_rc_spelling S.Writer value.now serializer.old
             serializer.new result }
     {
-        match value.serialize(serializer) {
-            Ok(resolver) => Ok(RcWeakResolver::from_option(resolver)),
-            Err(e) => Err(e),
-        }
+        let resolver = value.serialize(serializer)?;
+        Ok(RcWeakResolver::from_option(resolver))
     }
 }
 

@@ -1,4 +1,4 @@
-use Rattle.std.proofs.Common.{Err, arith, ◌*◌, refl, ap}
+use Rattle.std.proofs.Common.{rules, arith, ◌*◌, refl, ap}
 use Rattle.archive_shape_layout.specs.Shape.{size_of}
 use Rattle.archive_shape_layout.specs.Shape.Shape.{shared}
 use Rattle.archive_shape_layout.specs.Shape.Pointee.{sized}
@@ -13,35 +13,29 @@ returns-in_default-clause-exact g c names known =
     (target_missed c.args.bytes.now c.args.pos 4 (omega arith) c.type_inv.bytes (omega (arith, c.requires.fits)) c.new.result.bytes.now c.new.result.pos (ap (λ bytes. bytes.now) c.new.ensures.bytes) c.new.ensures.pos c.in_default.ensures)
     (omega (arith, c.SIZE-size.ensures, g.met.T.Portable.sized))
 
-pub returns-in-Err-clause-exact : goal.returns-in-Err-clause-exact
-returns-in-Err-clause-exact g c names known =
+pub returns-in_err-visit-clause-exact : goal.returns-in_err-visit-clause-exact
+returns-in_err-visit-clause-exact g c names known =
     let leads = target_found c.args.bytes.now c.args.pos 4 (omega arith) c.type_inv.bytes (omega (arith, c.requires.fits)) c.new.result.bytes.now c.new.result.pos (ap (λ bytes. bytes.now) c.new.ensures.bytes) c.new.ensures.pos c.in-Some.target c.in-Some.ensures in
     clash_checked names c.args.bytes.now c.args.pos g.L.Flavor.ALLOW_CYCLES (sized g.T.Portable.shape) c.in-Some.target 1 leads refl
-    (g.C.ArchiveContext.kept c.args.context.now) (g.C.ArchiveContext.kept c.args.context.now) (Err c.in-Err.e) c.in-Err.e refl c.in-Err.ensures
+    _ _ _ c.in_err-visit.field-0.0 (search rules) c.in_err-visit.ensures
 
-pub returns-then-not-is_first-clause-exact : goal.returns-then-not-is_first-clause-exact
-returns-then-not-is_first-clause-exact g c names known =
+pub returns-then-not-branch-clause-exact : goal.returns-then-not-branch-clause-exact
+returns-then-not-branch-clause-exact g c names known =
     let leads = target_found c.args.bytes.now c.args.pos 4 (omega arith) c.type_inv.bytes (omega (arith, c.requires.fits)) c.new.result.bytes.now c.new.result.pos (ap (λ bytes. bytes.now) c.new.ensures.bytes) c.new.ensures.pos c.in-Some.target c.in-Some.ensures in
     later_checked names c.args.bytes.now c.args.pos g.L.Flavor.ALLOW_CYCLES (sized g.T.Portable.shape) c.in-Some.target 1 leads refl
-    _ _ _ c.if-not-is_first.true c.in-Ok.ensures
+    _ _ _ c.if-not-branch.true c.in_ok-visit.ensures
 
-pub returns-in-Err-check_behind_each-clause-exact : goal.returns-in-Err-check_behind_each-clause-exact
-returns-in-Err-check_behind_each-clause-exact g c names known =
+pub returns-in_err-check_behind_each-clause-exact : goal.returns-in_err-check_behind_each-clause-exact
+returns-in_err-check_behind_each-clause-exact g c names known =
     let leads = target_found c.args.bytes.now c.args.pos 4 (omega arith) c.type_inv.bytes (omega (arith, c.requires.fits)) c.new.result.bytes.now c.new.result.pos (ap (λ bytes. bytes.now) c.new.ensures.bytes) c.new.ensures.pos c.in-Some.target c.in-Some.ensures in
     fault_checked names c.args.bytes.now c.args.pos g.L.Flavor.ALLOW_CYCLES (sized g.T.Portable.shape) c.in-Some.target 1 leads refl
-    _ _ _ c.if-not-is_first.false c.in-Ok.ensures (g.C.ArchiveContext.kept c.args.context.now) (Err c.in-Err-check_behind_each.e) c.in-Err-check_behind_each.e refl (c.in-Err-check_behind_each.ensures.exact names known)
+    _ _ _ c.if-not-branch.false c.in_ok-visit.ensures _ _ c.in_err-check_behind_each.field-0.0 (search rules) (c.in_err-check_behind_each.ensures.exact names known)
 
 pub returns-clause-exact : goal.returns-clause-exact
 returns-clause-exact g c names known =
     let leads = target_found c.args.bytes.now c.args.pos 4 (omega arith) c.type_inv.bytes (omega (arith, c.requires.fits)) c.new.result.bytes.now c.new.result.pos (ap (λ bytes. bytes.now) c.new.ensures.bytes) c.new.ensures.pos c.in-Some.target c.in-Some.ensures in
     first_checked names c.args.bytes.now c.args.pos g.L.Flavor.ALLOW_CYCLES (sized g.T.Portable.shape) c.in-Some.target 1 leads refl
-    _ _ _ c.if-not-is_first.false c.in-Ok.ensures _ _ _ (c.in_default-check_behind_each.ensures.exact names known) c.finish_shared.ensures
-
-pub returns-in-Err-clause-moves : goal.returns-in-Err-clause-moves
-returns-in-Err-clause-moves g c = tt
-
-pub returns-in-Err-check_behind_each-clause-moves : goal.returns-in-Err-check_behind_each-clause-moves
-returns-in-Err-check_behind_each-clause-moves g c = tt
+    _ _ _ c.if-not-branch.false c.in_ok-visit.ensures _ _ _ (c.in_ok-check_behind_each.ensures.exact names known) c.finish_shared.ensures
 
 pub check_behind_each-requires-clause-checks : goal.check_behind_each-requires-clause-checks
 check_behind_each-requires-clause-checks g c = c.requires.checks

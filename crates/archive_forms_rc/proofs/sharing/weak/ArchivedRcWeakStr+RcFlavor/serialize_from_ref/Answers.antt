@@ -2,5 +2,5 @@ use Rattle.std.proofs.Common.{ap, ◌∙◌}
 use Rattle.archive_forms_rc.specs.WeakResolvers.{weak_resolver}
 use Rattle.archive_forms_rc.proofs.sharing.weak.ArchivedRcWeakStr+RcFlavor.serialize_from_ref.Goals as goal
 
-pub returns-in-Ok : goal.returns-in-Ok
-returns-in-Ok g c st at = let laid = c.in-Ok.ensures st at in (laid.0, (c.from_option.ensures ∙ ap weak_resolver laid.1.0, laid.1.1, laid.1.2))
+pub returns : goal.returns
+returns g c st at = let laid = c.in_ok-resolver.ensures st at in (laid.0, (c.from_option.ensures ∙ ap weak_resolver laid.1.0, laid.1.1, laid.1.2))
