@@ -27,17 +27,6 @@ returns-then-to-gt-LAST_POSITION g c = λ st made.
 pub resolve_items-requires-clause-room : goal.resolve_items-requires-clause-room
 resolve_items-requires-clause-room g c = omega (arith, c.in_ok-to.ensures.writes.is_quiet, c.requires.room)
 
-pub returns : goal.returns
-returns g c = λ st made.
-    let w = (g.A.ArchiveWith.spelling c.args.with.now) in
-    let sh = g.A.Archived.Portable.shape in
-    let s : WriterMembers g.row.S.Denot = record { known = g.S.Registry.known; pos = g.S.Positional.pos; OBSERVABLE = g.S.Writer.OBSERVABLE; COUNTS = g.S.Writer.COUNTS; contents = g.S.Writer.contents; failures = g.S.Writer.failures; last_error = g.S.Writer.last_error } in
-    let xs = c.args.items.now in
-    let old = c.args.serializer.now in
-    let aligned = c.ALIGN.ensures ∙ g.met.A.Archived.Portable.aligned in
-    let own = c.in_ok-resolve_items.ensures st made in
-    behind_written w sh s xs st old _ _ aligned c.in_ok-to.ensures.writes _ c.in_ok-to.to c.in_ok-to.ensures.aligned (omega (arith, c.if-to-gt-LAST_POSITION.false)) own.0 own.1
-
 pub returns-in_err-resolve_items : goal.returns-in_err-resolve_items
 returns-in_err-resolve_items g c = λ st made.
     let w = (g.A.ArchiveWith.spelling c.args.with.now) in
@@ -48,3 +37,14 @@ returns-in_err-resolve_items g c = λ st made.
     let aligned = c.ALIGN.ensures ∙ g.met.A.Archived.Portable.aligned in
     let passed : c.from_residual-in_err-resolve_items.result ≡ Err c.in_err-resolve_items.field-0.0 = search rules in
     rw passed (behind_stopped w sh s xs st old _ _ aligned c.in_ok-to.ensures.writes _ _ (c.in_err-resolve_items.ensures st made))
+
+pub returns : goal.returns
+returns g c = λ st made.
+    let w = (g.A.ArchiveWith.spelling c.args.with.now) in
+    let sh = g.A.Archived.Portable.shape in
+    let s : WriterMembers g.row.S.Denot = record { known = g.S.Registry.known; pos = g.S.Positional.pos; OBSERVABLE = g.S.Writer.OBSERVABLE; COUNTS = g.S.Writer.COUNTS; contents = g.S.Writer.contents; failures = g.S.Writer.failures; last_error = g.S.Writer.last_error } in
+    let xs = c.args.items.now in
+    let old = c.args.serializer.now in
+    let aligned = c.ALIGN.ensures ∙ g.met.A.Archived.Portable.aligned in
+    let own = c.in_ok-resolve_items.ensures st made in
+    behind_written w sh s xs st old _ _ aligned c.in_ok-to.ensures.writes _ c.in_ok-to.to c.in_ok-to.ensures.aligned (omega (arith, c.if-to-gt-LAST_POSITION.false)) own.0 own.1

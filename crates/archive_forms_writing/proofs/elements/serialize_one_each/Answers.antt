@@ -53,6 +53,20 @@ pub resolve_aligned-requires-clause-made : goal.resolve_aligned-requires-clause-
 resolve_aligned-requires-clause-made g c =
     let l = c.requires.writes _ _ _ _ c.requires.room c.requires.state c.in_ok-resolver.ensures c.requires.state.state c.requires.state.is_at in (c.requires.state.state, l.1.0)
 
+pub returns-in_err-resolve_aligned : goal.returns-in_err-resolve_aligned
+returns-in_err-resolve_aligned g c = λ st at.
+    let w = g.T.Archive.spelling in
+    let sh = g.T.Archived.Portable.shape in
+    let s : WriterMembers g.row.S.Denot = record { known = g.S.Registry.known; pos = g.S.Positional.pos; OBSERVABLE = g.S.Writer.OBSERVABLE; COUNTS = g.S.Writer.COUNTS; contents = g.S.Writer.contents; failures = g.S.Writer.failures; last_error = g.S.Writer.last_error } in
+    let x = c.args.value.now in
+    let old = c.args.serializer.now in
+    let aligned = c.ALIGN.ensures ∙ g.met.T.Archived.Portable.aligned in
+    let l = c.requires.writes _ _ _ _ c.requires.room c.requires.state c.in_ok-resolver.ensures st at in
+    let filled : Filled w sh s (x ∷ []) old st _ = one_filled w sh s x st _ _ l.0 l.1.2 in
+    let passed : c.from_residual-in_err-resolve_aligned.result ≡ Err c.in_err-resolve_aligned.field-0.0 = search rules in
+    rw passed (region_owns_stopped w sh s (x ∷ []) old st _ _ _ (padded w sh s (x ∷ []) old st _ _ _ aligned filled c.in_ok-to.ensures.writes)
+    (one_own_stopped w sh s x st _ _ _ _ l.1.0 c.in_err-resolve_aligned.ensures))
+
 pub returns : goal.returns
 returns g c = λ st at.
     let w = g.T.Archive.spelling in
@@ -68,17 +82,3 @@ returns g c = λ st at.
     let done = region_written w sh s (x ∷ []) old st _ _ to at.stands (region_starts w sh s (x ∷ []) old st _ to _ aligned c.in_ok-to.ensures.aligned filled) (omega (arith, c.if-to-gt-LAST_POSITION.false))
     (padded w sh s (x ∷ []) old st _ _ _ aligned filled c.in_ok-to.ensures.writes) (l.1.1, tt) own.0 own.1 in
     (done.wrote, (done.to_is, done.fits, done.is_at))
-
-pub returns-in_err-resolve_aligned : goal.returns-in_err-resolve_aligned
-returns-in_err-resolve_aligned g c = λ st at.
-    let w = g.T.Archive.spelling in
-    let sh = g.T.Archived.Portable.shape in
-    let s : WriterMembers g.row.S.Denot = record { known = g.S.Registry.known; pos = g.S.Positional.pos; OBSERVABLE = g.S.Writer.OBSERVABLE; COUNTS = g.S.Writer.COUNTS; contents = g.S.Writer.contents; failures = g.S.Writer.failures; last_error = g.S.Writer.last_error } in
-    let x = c.args.value.now in
-    let old = c.args.serializer.now in
-    let aligned = c.ALIGN.ensures ∙ g.met.T.Archived.Portable.aligned in
-    let l = c.requires.writes _ _ _ _ c.requires.room c.requires.state c.in_ok-resolver.ensures st at in
-    let filled : Filled w sh s (x ∷ []) old st _ = one_filled w sh s x st _ _ l.0 l.1.2 in
-    let passed : c.from_residual-in_err-resolve_aligned.result ≡ Err c.in_err-resolve_aligned.field-0.0 = search rules in
-    rw passed (region_owns_stopped w sh s (x ∷ []) old st _ _ _ (padded w sh s (x ∷ []) old st _ _ _ aligned filled c.in_ok-to.ensures.writes)
-    (one_own_stopped w sh s x st _ _ _ _ l.1.0 c.in_err-resolve_aligned.ensures))

@@ -17,10 +17,10 @@ returns-in_err-items g c =
 pub returns-then-actual-len : goal.returns-then-actual-len
 returns-then-actual-len g c = inr (c.in_ok-items.ensures.0, c.in_ok-items.items.items, c.in_ok-items.ensures.1, c.in_ok-items.ensures.2, inr (search rules, search rules, refl))
 
-pub returns : goal.returns
-returns g c = inr (c.in_ok-items.ensures.0, c.in_ok-items.items.items, c.in_ok-items.ensures.1, c.in_ok-items.ensures.2, inl (search rules, search rules))
-
 pub returns-in_err-pos : goal.returns-in_err-pos
 returns-in_err-pos g c =
     let passed : c.from_residual-in_err-pos.result ≡ Err c.in_err-pos.field-0.0 = search rules in
     rw passed (inr (c.in_ok-items.ensures.0, c.in_ok-items.items.items, c.in_ok-items.ensures.1, c.in_ok-items.ensures.2, inl (search rules, search rules)))
+
+pub returns : goal.returns
+returns g c = inr (c.in_ok-items.ensures.0, c.in_ok-items.items.items, c.in_ok-items.ensures.1, c.in_ok-items.ensures.2, inl (search rules, search rules))
