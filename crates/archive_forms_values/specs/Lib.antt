@@ -2,6 +2,7 @@ pub mod Arrays
 pub mod Boxes
 pub mod Calls
 pub mod Claims
+pub mod Entries
 pub mod Fields
 pub mod Loans
 pub mod Parts

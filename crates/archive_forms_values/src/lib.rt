@@ -4,6 +4,7 @@
 
 mod boxed;
 mod checking;
+mod entries;
 mod lending;
 mod links;
 mod reading;
@@ -17,6 +18,7 @@ pub use checking::{
     check_result_each, check_slice_each, check_tuple1_each, check_tuple2_each, check_tuple3_each,
     check_tuple4_each, check_vec_each, field_end, greater, next_multiple,
 };
+pub use entries::{EntryIter, EntryKeys, EntryPositions, EntryValues};
 pub use lending::{lend_entry, lend_own, visit_entry, visit_own};
 pub use links::emplace_link;
 pub use reading::{
