@@ -3,7 +3,6 @@
 mod comparing;
 mod debug;
 mod hashing;
-mod iter;
 mod laws;
 mod lookup;
 mod resolving;
@@ -11,7 +10,7 @@ mod set;
 mod walking;
 
 pub use comparing::eq_btree_set;
-pub use iter::Iter;
 pub use laws::{equal_sets_are_hashed_alike, set_equalities_are_equivalences, set_is_read};
 pub use resolving::BTreeSetResolver;
 pub use set::ArchivedBTreeSet;
+pub use walking::Iter;

@@ -8,8 +8,9 @@ use Rattle.archive_shape_layout.specs.Shape.Shapes.{no_shapes, more_shapes}
 use Rattle.archive_shape_layout.specs.Content.{Names}
 use Rattle.archive_forms_values.specs.Tuples.{tuple2}
 use Rattle.archive_forms_values.specs.Parts.{HasValue, both}
+use Rattle.archive_forms_values.specs.Entries.{entry_from}
 use Rattle.archive_forms_values.proofs.Stands.{field_stands}
-use Rattle.archive_hash_maps.specs.Maps.{entry_at, pair_at}
+use Rattle.archive_hash_maps.specs.Maps.{entry_at, with_value}
 use Rattle.archive_hash_maps.proofs.Entries.{entry_parts}
 use Rattle.archive_hash_maps.proofs.Walked.{first_of}
 
@@ -38,9 +39,9 @@ module _ (k v : Shape) (knows others : Names → Type 0) (bytes : Bor (List ℕ)
 
     -- the values at the offset `behind` from keys are their values
     pub pairs_are : {K V : Type 0} (ps : List ℕ) → All (HasValue (tuple2 k v) (both knows others) bytes.now) ps
-        → map (pair_at {K = K} {V = V} bytes behind) ps ≡ map (entry_at {K = K} {V = V} bytes k v) ps
+        → map (entry_from {K = K} {V = V} bytes) (map (with_value behind) ps) ≡ map (entry_at {K = K} {V = V} bytes k v) ps
     pairs_are [] h = refl
     pairs_are {K} {V} (p ∷ ps) h =
         let each = first_of (HasValue (tuple2 k v) (both knows others) bytes.now) p ps (p ∷ ps) refl h in
         let is = stands p each.0 in
-        ap (λ n. pair_at {K = K} {V = V} bytes n p ∷ map (pair_at bytes behind) ps) is.0 ∙ ap (λ es. entry_at {K = K} {V = V} bytes k v p ∷ es) (pairs_are ps each.1)
+        ap (λ n. entry_from {K = K} {V = V} bytes (with_value n p) ∷ map (entry_from bytes) (map (with_value behind) ps)) is.0 ∙ ap (λ es. entry_at {K = K} {V = V} bytes k v p ∷ es) (pairs_are ps each.1)

@@ -59,9 +59,9 @@ value_at bytes k v at = item_at bytes (field_position k no_shapes v at)
 abbrev pub entry_at : {K V : Type 0} → Bor (List ℕ) → Shape → Shape → ℕ → Ref K × Ref V
 entry_at bytes k v at = (key_at bytes at, value_at bytes k v at)
 
--- the value at a position, and the value `behind` bytes after it
-abbrev pub pair_at : {K V : Type 0} → Bor (List ℕ) → ℕ → ℕ → Ref K × Ref V
-pair_at bytes behind at = (item_at bytes at, item_at bytes (at + behind))
+-- the position of an entry, which is that of its key, and that of its value, `behind` bytes after it
+abbrev pub with_value : ℕ → ℕ → ℕ × ℕ
+with_value behind at = (at, at + behind)
 
 -- the result of a look-up that has one of these hashes, among the items of a table
 pub record LooksUpHash {A : Type 0} (hashes : ℕ → Type 0) (says : ℕ → Bool → Type 0) (item : ℕ → A) (s : Shape) (b : Buckets) (found : Option A) : Type 0 where

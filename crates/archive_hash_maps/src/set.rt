@@ -2,15 +2,13 @@
 
 mod debug;
 mod equal;
-mod iter;
 mod lookup;
 mod resolving;
 mod set;
 mod std_map;
 mod std_set;
 
-pub use iter::Iter;
 pub use resolving::HashSetResolver;
-pub use set::ArchivedHashSet;
+pub use set::{ArchivedHashSet, Iter};
 pub use std_map::eq_hash_map;
 pub use std_set::eq_hash_set;

@@ -1,10 +1,6 @@
 -- Entries that a walk has left, which stand side by side.
-use denote.Ref.{Bor}
-use Rattle.std.proofs.Common.{◌≡◌, ◌∙◌, ℕ, zero, suc, ◌+◌, ◌-◌, ◌*◌, ◌^◌, ◌<◌, List, ◌∷◌, length, map, All, refl, ap, sym, subst, arith}
+use Rattle.std.proofs.Common.{◌≡◌, ◌∙◌, ℕ, zero, suc, ◌+◌, ◌-◌, ◌*◌, ◌^◌, ◌<◌, ◌∷◌, length, map, All, refl, ap, sym, subst, arith}
 use Rattle.std.proofs.lemmas.List.Elements.{All-nil, All-cons, All-tail}
-use Rattle.archive_shape.specs.declared.references.refs.Ref.{Ref}
-use Rattle.archive_hash_maps.specs.Maps.{pair_at}
-use Rattle.archive_hash_maps.proofs.Lookups.{item_is}
 use Rattle.archive_index.specs.Maps.{adjacent}
 
 pub walk_length : {A : Type 0} (f : ℕ → A) (size at n : ℕ) → length (map f (adjacent size at n)) ≡ n
@@ -14,15 +10,6 @@ walk_length f size at (suc n) = ap suc (walk_length f size (at + size) n)
 pub side_step : (size at left : ℕ) → (left ≡ 0 → ⊥) → adjacent size at left ≡ at ∷ adjacent size (at + size) (left - 1)
 side_step size at zero some = absurd (some refl)
 side_step size at (suc n) some = let less : n ≡ suc n - 1 = omega arith in ap (λ m. at ∷ adjacent size (at + size) m) less
-
--- the first is passed
-pub walk_step : {K V : Type 0} (bytes : Bor (List ℕ)) (behind size at left : ℕ) (key : Ref K) (value : Ref V) → (left ≡ 0 → ⊥)
-    → key.bytes ≡ bytes → key.pos ≡ at → value.bytes ≡ bytes → value.pos ≡ at + behind
-    → map (pair_at {K = K} {V = V} bytes behind) (adjacent size at left) ≡ (key, value) ∷ map (pair_at bytes behind) (adjacent size (at + size) (left - 1))
-walk_step {K} {V} bytes behind size at left key value some a b c d =
-    let e = sym (item_is bytes at key a b) in
-    let f = sym (item_is bytes (at + behind) value c d) in
-    ap (map (pair_at {K = K} {V = V} bytes behind)) (side_step size at left some) ∙ (λ i. (e i, f i) ∷ map (pair_at bytes behind) (adjacent size (at + size) (left - 1)))
 
 pub walk_within : (behind size at left : ℕ) → (left ≡ 0 → ⊥) → (at + left * size < 2 ^ 64) × All (λ p. p + behind < 2 ^ 64) (adjacent size at left)
     → (at + size + (left - 1) * size < 2 ^ 64) × All (λ p. p + behind < 2 ^ 64) (adjacent size (at + size) (left - 1))

@@ -5,6 +5,9 @@ ghost use Rattle.archive_btree_maps.specs.Calls.Layout.{IsExact, IsExactInBuffer
 use archive_forms_values::{greater, next_multiple};
 use archive_shape::Portable;
 
+/// The greatest number of levels of a tree; the root is on level 1.
+pub(crate) const MAX_LEVELS: usize = 32;
+
 /// The layout of a node: the offsets of its parts, in bytes from its first byte, their sizes in bytes, and their
 /// alignments. Offsets and sizes stop at `usize::MAX`, which no node in a buffer has.
 #[derive(Clone, Copy, Debug, PartialEq, Eq)]

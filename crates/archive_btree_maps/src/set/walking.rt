@@ -2,11 +2,14 @@
 ghost use Rattle.archive_btree_maps.specs.Sets.{HasSet, unit_shape};
 ghost use Rattle.archive_btree_maps.specs.Calls.Visits.{IteratesKeys, MayVisitKeys, VisitsKeys};
 
-use crate::map::ArchivedBTreeMap;
+use crate::map::{ArchivedBTreeMap, Keys};
+use crate::set::ArchivedBTreeSet;
 use crate::set::set::as_map;
-use crate::set::{ArchivedBTreeSet, Iter};
 use archive_shape::{Portable, Ref};
 use std::ops::ControlFlow;
+
+/// An iterator over the keys of a set in their order. Its model is the list of the keys that are left.
+pub type Iter<'a, K> = Keys<'a, K, ()>;
 
 impl<K: Portable, const E: usize> ArchivedBTreeSet<K, E> {
     /// Returns an iterator over the keys in their order.
@@ -14,7 +17,7 @@ impl<K: Portable, const E: usize> ArchivedBTreeSet<K, E> {
         requires has { HasSet E K.shape K.knows this.bytes.now this.pos }
         ensures { IteratesKeys E K.shape unit_shape this.entry result }
     {
-        Iter::new(ArchivedBTreeMap::keys(as_map(this)))
+        ArchivedBTreeMap::keys(as_map(this))
     }
 
     /// Calls `visit` with each key in order, up to the first that it breaks at. Returns the value that it breaks with,

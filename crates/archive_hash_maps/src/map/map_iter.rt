@@ -1,161 +1,59 @@
 //! Iterators over the entries of an archived hash map by ascending place.
-ghost use Rattle.std.specs.Prelude.{ℕ, ◌+◌, ◌^◌, ◌<◌, IfSome, All, length, map};
-ghost use Rattle.std.specs.Iterator.{YieldsFirst, UpTo, item_count};
-ghost use Rattle.std.specs.Iterator.SizeHint.{IsExactHint, IsWithinCount};
+ghost use Rattle.std.specs.Prelude.{All};
 ghost use Rattle.archive_shape_layout.specs.Shape.Shape.{table};
 ghost use Rattle.archive_forms_values.specs.Parts.{HasValue};
-ghost use Rattle.archive_hash_maps.specs.Maps.{IsThere, HasMap, pair_at};
+ghost use Rattle.archive_hash_maps.specs.Maps.{IsThere, HasMap};
 ghost use Rattle.archive_hash_maps.specs.Calls.Lists.{ListsEntries, ListsKeys, ListsValues};
 
 use crate::map::{ArchivedHashMap, ArchivedHashTable};
 use crate::walking::RawIter;
-use archive_forms_values::{Entry, next_multiple};
+use archive_forms_values::{
+    Entry, EntryIter, EntryKeys, EntryPositions, EntryValues, next_multiple,
+};
 use archive_shape::{Portable, Ref};
-use std::iter::FusedIterator;
-use std::marker::{Model, PhantomData};
+use std::marker::Model;
 
-/// An iterator over the entries by ascending place: each key with its value. Its view is the list of the entries that
-/// are left.
+/// The positions of entries by ascending place. Its view is the list of those that are left.
 #[derive(Drop)]
-pub struct Iter<'a, K, V> {
-    bytes: &'a [u8],
+pub struct EntryPlaces<'a, K, V> {
     positions: RawIter<'a, Entry<K, V>>,
     /// The offset of a value from its entry's position.
     behind: usize,
-    of: PhantomData<(K, V)>,
 }
 
-impl<'a, K, V> Model for Iter<'a, K, V> {
+impl<'a, K, V> Model for EntryPlaces<'a, K, V> {
     ghost use Rattle.std.specs.Prelude.{ℕ, ◌+◌, ◌^◌, ◌<◌, List, map, All};
-    ghost use Rattle.archive_shape.specs.declared.references.refs.Ref.{Ref};
-    ghost use Rattle.archive_hash_maps.specs.Maps.{pair_at};
+    ghost use Rattle.archive_hash_maps.specs.Maps.{with_value};
 
-    ghost Value = { List (Ref K × Ref V) };
+    ghost Value = { List (ℕ × ℕ) };
 
-    ghost view = { λ it. map (pair_at it.bytes it.behind) it.positions };
+    ghost view = { λ it. map (with_value it.behind) it.positions };
 
     ghost invariant = { λ it. All (λ at. at + it.behind < 2 ^ 64) it.positions };
 }
 
-impl<'a, K, V> Iterator for Iter<'a, K, V> {
-    type Item = (Ref<'a, K>, Ref<'a, V>);
+impl<'a, K, V> EntryPositions for EntryPlaces<'a, K, V> {
+    ghost left = { λ xs. xs };
 
-    ghost next_gives = { YieldsFirst (λ xs. xs) };
-
-    ghost remaining = { item_count (λ xs. xs) };
-
-    fn next(&mut self) -> Option<(Ref<'a, K>, Ref<'a, V>)> {
+    fn next_entry(&mut self) -> Option<(usize, usize)> {
         let at = self.positions.next()?;
-        Some((
-            Ref::new(self.bytes, at),
-            Ref::new(self.bytes, at + self.behind),
-        ))
+        Some((at, at + self.behind))
     }
 
-    fn size_hint(&self) -> (usize, Option<usize>)
-        ensures lower { IsWithinCount result.0 (item_count (λ xs. xs) self.now) }
-        ensures upper { IfSome result.1 (UpTo (item_count (λ xs. xs) self.now)) }
-        ensures exact { IsExactHint result (length self.now) }
-    {
-        self.positions.size_hint()
-    }
-}
-
-impl<'a, K, V> ExactSizeIterator for Iter<'a, K, V> {
-    fn len(&self) -> usize {
+    fn entries_left(&self) -> usize {
         self.positions.len()
     }
 }
 
-impl<'a, K, V> FusedIterator for Iter<'a, K, V> {}
+/// An iterator over the entries by ascending place: each key with its value. Its view is the list of the entries that
+/// are left.
+pub type Iter<'a, K, V> = EntryIter<'a, K, V, EntryPlaces<'a, K, V>>;
 
 /// An iterator over the keys by ascending place. Its view is the list of the keys that are left.
-#[derive(Drop)]
-pub struct Keys<'a, K, V> {
-    entries: Iter<'a, K, V>,
-}
-
-impl<'a, K, V> Model for Keys<'a, K, V> {
-    ghost use Rattle.std.specs.Prelude.{List, map};
-    ghost use Rattle.archive_shape.specs.declared.references.refs.Ref.{Ref};
-
-    ghost Value = { List (Ref K) };
-
-    ghost view = { λ it. map (λ e. e.0) it.entries };
-}
-
-impl<'a, K, V> Iterator for Keys<'a, K, V> {
-    type Item = Ref<'a, K>;
-
-    ghost next_gives = { YieldsFirst (λ xs. xs) };
-
-    ghost remaining = { item_count (λ xs. xs) };
-
-    fn next(&mut self) -> Option<Ref<'a, K>> {
-        let (key, _) = self.entries.next()?;
-        Some(key)
-    }
-
-    fn size_hint(&self) -> (usize, Option<usize>)
-        ensures lower { IsWithinCount result.0 (item_count (λ xs. xs) self.now) }
-        ensures upper { IfSome result.1 (UpTo (item_count (λ xs. xs) self.now)) }
-        ensures exact { IsExactHint result (length self.now) }
-    {
-        self.entries.size_hint()
-    }
-}
-
-impl<'a, K, V> ExactSizeIterator for Keys<'a, K, V> {
-    fn len(&self) -> usize {
-        self.entries.len()
-    }
-}
-
-impl<'a, K, V> FusedIterator for Keys<'a, K, V> {}
+pub type Keys<'a, K, V> = EntryKeys<'a, K, V, EntryPlaces<'a, K, V>>;
 
 /// An iterator over the values by ascending place. Its view is the list of the values that are left.
-#[derive(Drop)]
-pub struct Values<'a, K, V> {
-    entries: Iter<'a, K, V>,
-}
-
-impl<'a, K, V> Model for Values<'a, K, V> {
-    ghost use Rattle.std.specs.Prelude.{List, map};
-    ghost use Rattle.archive_shape.specs.declared.references.refs.Ref.{Ref};
-
-    ghost Value = { List (Ref V) };
-
-    ghost view = { λ it. map (λ e. e.1) it.entries };
-}
-
-impl<'a, K, V> Iterator for Values<'a, K, V> {
-    type Item = Ref<'a, V>;
-
-    ghost next_gives = { YieldsFirst (λ xs. xs) };
-
-    ghost remaining = { item_count (λ xs. xs) };
-
-    fn next(&mut self) -> Option<Ref<'a, V>> {
-        let (_, value) = self.entries.next()?;
-        Some(value)
-    }
-
-    fn size_hint(&self) -> (usize, Option<usize>)
-        ensures lower { IsWithinCount result.0 (item_count (λ xs. xs) self.now) }
-        ensures upper { IfSome result.1 (UpTo (item_count (λ xs. xs) self.now)) }
-        ensures exact { IsExactHint result (length self.now) }
-    {
-        self.entries.size_hint()
-    }
-}
-
-impl<'a, K, V> ExactSizeIterator for Values<'a, K, V> {
-    fn len(&self) -> usize {
-        self.entries.len()
-    }
-}
-
-impl<'a, K, V> FusedIterator for Values<'a, K, V> {}
+pub type Values<'a, K, V> = EntryValues<'a, K, V, EntryPlaces<'a, K, V>>;
 
 impl<K: Portable, V: Portable, H> ArchivedHashMap<K, V, H> {
     /// Returns the entries by ascending place: each key with its value.
@@ -165,12 +63,11 @@ impl<K: Portable, V: Portable, H> ArchivedHashMap<K, V, H> {
         ensures entries { ListsEntries K.shape V.shape this.entry result }
     {
         let _len = this.bytes.len();
-        Iter {
-            bytes: this.bytes,
+        let positions = EntryPlaces {
             positions: ArchivedHashTable::raw_iter(ArchivedHashMap::table(this)),
             behind: next_multiple(K::SIZE, V::ALIGN),
-            of: PhantomData,
-        }
+        };
+        EntryIter::new(this.bytes, positions)
     }
 
     /// Returns the keys by ascending place.
@@ -179,9 +76,7 @@ impl<K: Portable, V: Portable, H> ArchivedHashMap<K, V, H> {
         ensures there { All (λ r. HasValue K.shape K.knows r.bytes.now r.pos) result }
         ensures keys { ListsKeys K.shape V.shape this.entry result }
     {
-        Keys {
-            entries: ArchivedHashMap::iter(this),
-        }
+        EntryKeys::new(ArchivedHashMap::iter(this))
     }
 
     /// Returns the values by ascending place.
@@ -190,8 +85,6 @@ impl<K: Portable, V: Portable, H> ArchivedHashMap<K, V, H> {
         ensures there { All (λ r. HasValue V.shape V.knows r.bytes.now r.pos) result }
         ensures values { ListsValues K.shape V.shape this.entry result }
     {
-        Values {
-            entries: ArchivedHashMap::iter(this),
-        }
+        EntryValues::new(ArchivedHashMap::iter(this))
     }
 }

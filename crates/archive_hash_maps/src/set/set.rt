@@ -8,8 +8,7 @@ ghost use Rattle.archive_hash_maps.specs.Places.{item_at};
 ghost use Rattle.archive_hash_maps.specs.Sets.{IsSet, set_shape, set_knows, HasSet};
 ghost use Rattle.archive_hash_maps.specs.Calls.Lists.{ListsElements};
 
-use crate::map::ArchivedHashMap;
-use crate::set::Iter;
+use crate::map::{ArchivedHashMap, Keys};
 use archive_shape::{ArchiveContext, CheckBytes, Error, NoUndef, Portable, Ref, Shape};
 use std::alloc::{AllocError, Global};
 use std::marker::PhantomData;
@@ -57,6 +56,9 @@ impl<C: ArchiveContext, K: CheckBytes<C>, H> CheckBytes<C> for ArchivedHashSet<K
     }
 }
 
+/// An iterator over the keys by ascending place. Its view is the list of the keys that are left.
+pub type Iter<'a, K> = Keys<'a, K, ()>;
+
 /// Returns the set as a map of its keys to `()`.
 pub(crate) fn as_map<'a, K, H>(
     this: Ref<'a, ArchivedHashSet<K, H>>,
@@ -89,6 +91,6 @@ impl<K: Portable, H> ArchivedHashSet<K, H> {
         ensures there { All (λ r. HasValue K.shape K.knows r.bytes.now r.pos) result }
         ensures keys { ListsElements K.shape this.entry result }
     {
-        Iter::new(ArchivedHashMap::keys(as_map(this)))
+        ArchivedHashMap::keys(as_map(this))
     }
 }

@@ -9,11 +9,9 @@ ghost use Rattle.archive_btree_maps.specs.Calls.Checking.{CountsChild, CountsChi
 use crate::nodes::NodeLayout;
 use crate::nodes::checking::claim::claim_node;
 use crate::nodes::checking::entries::check_entries;
+use crate::nodes::layout::MAX_LEVELS;
 use archive_forms_values::{read_target, read_word};
 use archive_shape::{ArchiveContext, Error, Portable};
-
-/// The greatest number of levels of a tree; the root is on level 1.
-const MAX_LEVELS: usize = 32;
 
 /// The word of a pointer that leads to no child.
 const NO_CHILD: u32 = 1;

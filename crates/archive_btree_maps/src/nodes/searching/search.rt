@@ -5,6 +5,7 @@ ghost use Rattle.archive_btree_maps.specs.Searching.{IsSaid};
 ghost use Rattle.archive_btree_maps.specs.Calls.Searching.{AnswersCounted, AnswersPlace, CanSearch, FindsAmong, SearchesTo};
 
 use crate::nodes::NodeLayout;
+use crate::nodes::layout::MAX_LEVELS;
 use crate::nodes::searching::EntryAt;
 use crate::nodes::searching::node::{child_of, entry_count, entry_of};
 use std::cmp::Ordering;
@@ -56,7 +57,7 @@ pub fn search_counted<F: Fn(usize) -> Ordering>(
     let _len = bytes.len();
     let mut pos = root;
     let mut compared = 0usize;
-    for _level in 0..32u32 {
+    for _level in 0..MAX_LEVELS {
         let count = entry_count(bytes, layout, pos);
         match search_keys(pos + layout.keys, layout.key_size, count, compare) {
             Outcome::Equals(i) => {

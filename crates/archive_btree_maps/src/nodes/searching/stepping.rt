@@ -56,7 +56,7 @@ impl EntryWalk {
         ensures within { HasRun bytes.now layout root result }
         ensures between { HasBetween bytes.now layout root F.post precedes.now G.post follows.now result }
     {
-        let stack = Stack::behind(bytes, root, layout, precedes);
+        let stack = Stack::after_passing(bytes, root, layout, precedes);
         let Some(first) = stack.next_key(bytes, layout) else {
             return EntryWalk::empty(layout);
         };
@@ -71,7 +71,7 @@ impl EntryWalk {
         EntryWalk {
             layout,
             stack,
-            end: Stack::behind(bytes, root, layout, &is_before_end).next_key(bytes, layout),
+            end: Stack::after_passing(bytes, root, layout, &is_before_end).next_key(bytes, layout),
         }
     }
 

@@ -11,6 +11,7 @@ ghost use Rattle.archive_btree_maps.specs.Calls.Searching.{CanSearch, HasTreeOn}
 ghost use Rattle.archive_btree_maps.specs.Calls.Stacks.{AreReachedFrom, HasAllLeft, HasFailingLeft, HasLastLeft, PassesItem, PassesItemBefore, PushesItems, Stands, StayReached, StayReachedWith, items_left};
 
 use crate::nodes::NodeLayout;
+use crate::nodes::layout::MAX_LEVELS;
 use crate::nodes::searching::EntryAt;
 use crate::nodes::searching::node::{child_of, entry_count, entry_of};
 use std::iter::FusedIterator;
@@ -19,8 +20,8 @@ use std::marker::Model;
 /// The nodes from the root down to the node that a walk is in, each with the index of its next entry.
 #[derive(Clone, Copy)]
 pub(crate) struct Stack {
-    nodes: [usize; 32],
-    nexts: [usize; 32],
+    nodes: [usize; MAX_LEVELS],
+    nexts: [usize; MAX_LEVELS],
     depth: usize,
 }
 
@@ -32,8 +33,8 @@ impl Stack {
         ensures depth { result.depth ≡ 0 }
     {
         Stack {
-            nodes: [0; 32],
-            nexts: [0; 32],
+            nodes: [0; MAX_LEVELS],
+            nexts: [0; MAX_LEVELS],
             depth: 0,
         }
     }
@@ -53,7 +54,7 @@ impl Stack {
     /// Returns the stack of a walk over the tree at a root that has passed the entries up to the first one that does
     /// not pass a test of the position of its key. If an entry that passes the test follows one that does not, the
     /// number of passed entries is not specified.
-    pub(crate) fn behind<F: Fn(usize) -> bool>(
+    pub(crate) fn after_passing<F: Fn(usize) -> bool>(
         bytes: &[u8],
         root: usize,
         layout: NodeLayout,

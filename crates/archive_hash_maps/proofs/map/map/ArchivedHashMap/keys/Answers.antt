@@ -1,4 +1,4 @@
-use Rattle.std.proofs.Common.{◌∙◌, map, ap}
+use Rattle.std.proofs.Common.{◌∙◌, map, All, ap, subst, sym}
 use Rattle.std.proofs.lemmas.List.Elements.{All-map}
 use Rattle.archive_forms_values.specs.Tuples.{tuple2}
 use Rattle.archive_forms_values.specs.Parts.{HasValue}
@@ -8,10 +8,12 @@ use Rattle.archive_hash_maps.proofs.Paired.{mapped}
 use Rattle.archive_hash_maps.proofs.map.map.ArchivedHashMap.keys.Goals as goal
 
 pub returns-clause-there : goal.returns-clause-there
-returns-clause-there g c = All-map (λ r. HasValue g.K.Portable.shape g.K.Portable.knows r.bytes.now r.pos) (λ e. e.0) c.iter.result (λ i d less. (c.iter.ensures.there i d less).0)
+returns-clause-there g c =
+    subst (All (λ r. HasValue g.K.Portable.shape g.K.Portable.knows r.bytes.now r.pos)) (sym c.new.ensures)
+    (All-map (λ r. HasValue g.K.Portable.shape g.K.Portable.knows r.bytes.now r.pos) (λ e. e.0) c.iter.result (λ i d less. (c.iter.ensures.there i d less).0))
 
 pub returns-clause-keys : goal.returns-clause-keys
 returns-clause-keys g c b is =
     let k = g.K.Portable.shape in
     let v = g.V.Portable.shape in
-    ap (map (λ e. e.0)) (c.iter.ensures.entries b is) ∙ mapped (entry_at {K = g.row.K.Denot} {V = g.row.V.Denot} c.args.this.bytes k v) (λ e. e.0) (item_positions (tuple2 k v) b)
+    c.new.ensures ∙ ap (map (λ e. e.0)) (c.iter.ensures.entries b is) ∙ mapped (entry_at {K = g.row.K.Denot} {V = g.row.V.Denot} c.args.this.bytes k v) (λ e. e.0) (item_positions (tuple2 k v) b)

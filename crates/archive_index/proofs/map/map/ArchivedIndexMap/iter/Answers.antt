@@ -1,13 +1,14 @@
 use Rattle.std.proofs.Common.{◌∙◌, ◌+◌, ◌^◌, ◌<◌, map, All, sym, ap, subst, arith}
 use Rattle.archive_forms_values.specs.Parts.{HasValue}
-use Rattle.archive_hash_maps.specs.Maps.{pair_at}
+use Rattle.archive_forms_values.specs.Entries.{entry_from}
+use Rattle.archive_hash_maps.specs.Maps.{with_value}
 use Rattle.archive_hash_maps.proofs.Paired.{entries_held, values_fit, pairs_are}
 use Rattle.archive_index.specs.Maps.{entry_positions}
 use Rattle.archive_index.proofs.Standing.{map_of, all_entries, walk_fits}
 use Rattle.archive_index.proofs.map.map.ArchivedIndexMap.iter.Goals as goal
 
-pub invariant_of-result : goal.invariant_of-result
-invariant_of-result g c =
+pub invariant_of-positions : goal.invariant_of-positions
+invariant_of-positions g c =
     let k = g.K.Portable.shape in
     let v = g.V.Portable.shape in
     let knows = g.K.Portable.knows in
@@ -30,7 +31,8 @@ returns-clause-entries g c m is =
     let bytes = c.args.this.bytes in
     let e = c.entries_at-at.ensures.map m is in
     let w = walk_fits k v knows others bytes.now c.args.this.pos c.requires m is c.entries_at-at.result.0 c.entries_at-at.result.1 c.SIZE.result e.0 e.1 c.SIZE.ensures (omega arith) in
-    ap (map (pair_at {K = g.row.K.Denot} {V = g.row.V.Denot} bytes c.next_multiple.result)) w.2
+    c.new.ensures
+    ∙ ap (λ ps. map (entry_from {K = g.row.K.Denot} {V = g.row.V.Denot} bytes) (map (with_value c.next_multiple.result) ps)) w.2
     ∙ pairs_are k v knows others bytes c.SIZE-2.result c.ALIGN.result c.next_multiple.result (omega arith) (c.SIZE-2.ensures ∙ g.met.K.Portable.sized) (c.ALIGN.ensures ∙ g.met.V.Portable.aligned) c.next_multiple.ensures (entry_positions k v m) (all_entries k v knows others bytes.now c.args.this.pos c.requires m is)
 
 pub returns-clause-there : goal.returns-clause-there

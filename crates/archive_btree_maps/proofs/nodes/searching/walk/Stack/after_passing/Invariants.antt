@@ -3,7 +3,7 @@ use Rattle.std.specs.Prelude.{IfSome}
 use Rattle.archive_btree_maps.specs.Walking.{node_items}
 use Rattle.archive_btree_maps.specs.Stepping.{IsReached, AreReached}
 use Rattle.archive_btree_maps.proofs.Passing.{IsPassing}
-use Rattle.archive_btree_maps.proofs.nodes.searching.walk.Stack.behind.Given as goal
+use Rattle.archive_btree_maps.proofs.nodes.searching.walk.Stack.after_passing.Given as goal
 
 abbrev pub invariant-loop-child : goal.invariant-loop-child
 invariant-loop-child g l =

@@ -5,7 +5,7 @@ use Rattle.archive_btree_maps.proofs.Walked.{leads_some, node_same}
 use Rattle.archive_btree_maps.proofs.Passing.{own_callable, passing_on, passing_root, passing_left, passing_rest}
 use Rattle.archive_btree_maps.specs.Stepping.IsReached.{is_root}
 use Rattle.archive_btree_maps.proofs.Reached.{reached_on}
-use Rattle.archive_btree_maps.proofs.nodes.searching.walk.Stack.behind.Goals as goal
+use Rattle.archive_btree_maps.proofs.nodes.searching.walk.Stack.after_passing.Goals as goal
 
 pub loop-child-init : goal.loop-child-init
 loop-child-init g c =
