@@ -45,17 +45,11 @@ fn write_node_each<
         return Err(Error::OutOfMemory);
     }
     let first = &entries[0];
-    let first = match step.serialize_entry(with, first.0, first.1, serializer) {
-        Ok(done) => done,
-        Err(e) => return Err(e),
-    };
+    let first = step.serialize_entry(with, first.0, first.1, serializer)?;
     let mut kept = [first; E];
     for i in 1..entries.len() {
         let entry = &entries[i];
-        match step.serialize_entry(with, entry.0, entry.1, serializer) {
-            Ok(done) => kept[i] = done,
-            Err(e) => return Err(e),
-        }
+        kept[i] = step.serialize_entry(with, entry.0, entry.1, serializer)?;
     }
     let kept: &[(K::Resolver, A::Resolver)] = &kept;
     write_behind::<K, V, A, S, E>(with, entries, &kept[..entries.len()], children, serializer)

@@ -38,10 +38,8 @@ fn build_leaf<T: Copy, S: Writer, N: NodeStep<T, S, E>, I: Iterator<Item = T>, c
     for i in 1..count {
         own[i] = take_entry(source)?;
     }
-    match nodes.write_leaf(&own[..count], serializer) {
-        Ok(pos) => Ok(Some(pos)),
-        Err(e) => Err(e),
-    }
+    let pos = nodes.write_leaf(&own[..count], serializer)?;
+    Ok(Some(pos))
 }
 
 /// Writes the subtree below a pointer, and returns the position of its root, if it has entries. The subtree has `above`
@@ -147,10 +145,8 @@ fn build_inner<T: Copy, S: Writer, N: NodeStep<T, S, E>, I: Iterator<Item = T>, 
         below,
         left,
     )?;
-    match nodes.write_inner(&own, &lesser, greater, serializer) {
-        Ok(pos) => Ok(Some(pos)),
-        Err(e) => Err(e),
-    }
+    let pos = nodes.write_inner(&own, &lesser, greater, serializer)?;
+    Ok(Some(pos))
 }
 
 /// Writes what is below a lesser pointer, and takes the entry after it.

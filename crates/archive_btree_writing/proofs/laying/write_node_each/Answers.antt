@@ -1,4 +1,4 @@
-use Rattle.std.proofs.Common.{◌≡◌, arith, ◌<◌, ◌≤◌, ◌+◌, List, sym, ap, ◌∙◌, ◌∷◌, [], ◌++◌, subst, length, length-set, take, Err, refl, inl}
+use Rattle.std.proofs.Common.{rules, ◌≡◌, arith, ◌<◌, ◌≤◌, ◌+◌, List, sym, ap, ◌∙◌, ◌∷◌, [], ◌++◌, subst, length, length-set, take, Err, refl, inl}
 use Rattle.std.proofs.lemmas.List.{length-replicate}
 use Rattle.archive_shape_layout.specs.Writing.{WriterMembers}
 use Rattle.archive_forms_writing.proofs.Loops.{Reached, next_of, none_left, reached_first, first_stopped, reached_next, reached_stopped, reached_all}
@@ -11,8 +11,8 @@ use Rattle.archive_btree_writing.proofs.Placing.{Behind, data_stopped, node_laid
 use Rattle.archive_btree_writing.proofs.Viewed.{lays_seen}
 use Rattle.archive_btree_writing.proofs.laying.write_node_each.Goals as goal
 
-pub returns-in-Err : goal.returns-in-Err
-returns-in-Err g c =
+pub returns-in_err-first : goal.returns-in_err-first
+returns-in_err-first g c =
     let some : 0 < length c.args.entries.now = c.requires.some in
     let w = borrowed_entry g.row.E g.K.Archived.Portable.shape g.A.Archived.Portable.shape g.K.Archive.spelling (g.A.ArchiveWith.spelling c.args.with.now) in
     let e = next_of c.args.entries.now 0 _ some c.index-entries-0.is in
@@ -24,8 +24,10 @@ returns-in-Err g c =
     let old = c.args.serializer.now in
     let new = c.serialize_entry.new.serializer in
     let s : WriterMembers g.row.S.Denot = record { known = g.S.Registry.known; pos = g.S.Positional.pos; OBSERVABLE = g.S.Writer.OBSERVABLE; COUNTS = g.S.Writer.COUNTS; contents = g.S.Writer.contents; failures = g.S.Writer.failures; last_error = g.S.Writer.last_error } in
-    lays_seen g.row.E k v (λ b. b.now) (λ b. b.now) g.K.Archive.spelling (g.A.ArchiveWith.spelling c.args.with.now) s n old new (Err c.in-Err.e)
-    (λ st at. data_stopped g.row.E k v keys vals s n st old new c.in-Err.e (first_stopped w s c.args.entries.now _ st _ _ _ e at (c.in-Err.ensures st at)))
+    let failed : c.from_residual.result ≡ Err c.in_err-first.field-0.0 = search rules in
+    rw failed
+    (lays_seen g.row.E k v (λ b. b.now) (λ b. b.now) g.K.Archive.spelling (g.A.ArchiveWith.spelling c.args.with.now) s n old new (Err c.in_err-first.field-0.0)
+    (λ st at. data_stopped g.row.E k v keys vals s n st old new c.in_err-first.field-0.0 (first_stopped w s c.args.entries.now _ st _ _ _ e at (c.in_err-first.ensures st at))))
 
 pub loop-i-init : goal.loop-i-init
 loop-i-init g c =
@@ -35,13 +37,13 @@ loop-i-init g c =
     let e = next_of c.args.entries.now 0 _ some c.index-entries-0.is in
     let s : WriterMembers g.row.S.Denot = record { known = g.S.Registry.known; pos = g.S.Positional.pos; OBSERVABLE = g.S.Writer.OBSERVABLE; COUNTS = g.S.Writer.COUNTS; contents = g.S.Writer.contents; failures = g.S.Writer.failures; last_error = g.S.Writer.last_error } in
     record {
-      whole = length-replicate g.row.E c.in-Ok.done;
+      whole = length-replicate g.row.E c.in_ok-first.first;
       within = some;
       reached = λ st at.
           let P : List (g.row.K-Resolver.Denot × g.row.A-Resolver.Denot) → Type 0 = λ l. Reached w s c.args.entries.now c.args.serializer.now st 1 c.serialize_entry.new.serializer l in
-          let l = c.in-Ok.ensures st at in
+          let l = c.in_ok-first.ensures st at in
           let z = reached_first w s c.args.entries.now _ st _ _ e at l.0 l.1.1 l.1.2 in
-          subst P (sym (take_one g.row.E c.in-Ok.done more ∙ ap (λ q. q ∷ []) l.1.0)) z;
+          subst P (sym (take_one g.row.E c.in_ok-first.first more ∙ ap (λ q. q ∷ []) l.1.0)) z;
     }
 
 pub serialize_entry-requires-in-loop-i-clause-room : goal.serialize_entry-requires-in-loop-i-clause-room
@@ -52,8 +54,8 @@ pub serialize_entry-requires-in-loop-i-clause-state : goal.serialize_entry-requi
 serialize_entry-requires-in-loop-i-clause-state g c =
     let r = c.loop-i.invariant.reached c.requires.state.state c.requires.state.is_at in record { state = r.left; is_at = r.is_at }
 
-pub returns-in-Err-serialize_entry : goal.returns-in-Err-serialize_entry
-returns-in-Err-serialize_entry g c =
+pub returns-in_err-kept : goal.returns-in_err-kept
+returns-in_err-kept g c =
     let less : c.loop-i.i < length c.args.entries.now = c.loop-i-test.true in
     let k = g.K.Archived.Portable.shape in
     let v = g.A.Archived.Portable.shape in
@@ -63,11 +65,13 @@ returns-in-Err-serialize_entry g c =
     let old = c.args.serializer.now in
     let new = c.serialize_entry-in-loop-i.new.serializer in
     let s : WriterMembers g.row.S.Denot = record { known = g.S.Registry.known; pos = g.S.Positional.pos; OBSERVABLE = g.S.Writer.OBSERVABLE; COUNTS = g.S.Writer.COUNTS; contents = g.S.Writer.contents; failures = g.S.Writer.failures; last_error = g.S.Writer.last_error } in
-    lays_seen g.row.E k v (λ b. b.now) (λ b. b.now) g.K.Archive.spelling (g.A.ArchiveWith.spelling c.args.with.now) s n old new (Err c.in-Err-serialize_entry.e)
+    let failed : c.from_residual-in_err-kept.result ≡ Err c.in_err-kept.field-0.0 = search rules in
+    rw failed
+    (lays_seen g.row.E k v (λ b. b.now) (λ b. b.now) g.K.Archive.spelling (g.A.ArchiveWith.spelling c.args.with.now) s n old new (Err c.in_err-kept.field-0.0)
     (λ st at.
     let r = c.loop-i.invariant.reached st at in
-    data_stopped g.row.E k v keys vals s n st old new c.in-Err-serialize_entry.e
-    (reached_stopped _ _ _ _ _ c.loop-i.i _ _ _ _ _ (next_of c.args.entries.now c.loop-i.i _ less c.index-entries-i.is) r (c.in-Err-serialize_entry.ensures r.left r.is_at)))
+    data_stopped g.row.E k v keys vals s n st old new c.in_err-kept.field-0.0
+    (reached_stopped _ _ _ _ _ c.loop-i.i _ _ _ _ _ (next_of c.args.entries.now c.loop-i.i _ less c.index-entries-i.is) r (c.in_err-kept.ensures r.left r.is_at))))
 
 pub loop-i-preserved : goal.loop-i-preserved
 loop-i-preserved g c =
@@ -83,9 +87,9 @@ loop-i-preserved g c =
       reached = λ st at.
           let P : List (g.row.K-Resolver.Denot × g.row.A-Resolver.Denot) → Type 0 = λ l. Reached w s c.args.entries.now c.args.serializer.now st (c.loop-i.i + 1) c.serialize_entry-in-loop-i.new.serializer l in
           let r = c.loop-i.invariant.reached st at in
-          let l = c.in-Ok-serialize_entry.ensures r.left r.is_at in
+          let l = c.in_ok-kept.ensures r.left r.is_at in
           let z = reached_next _ _ _ _ _ c.loop-i.i _ _ _ _ e r l.0 l.1.1 l.1.2 in
-          subst P (sym (take_set c.loop-i.kept c.loop-i.i c.in-Ok-serialize_entry.done inside ∙ ap (λ q. before ++ (q ∷ [])) l.1.0)) z;
+          subst P (sym (take_set c.loop-i.kept c.loop-i.i c.in_ok-kept.field-0 inside ∙ ap (λ q. before ++ (q ∷ [])) l.1.0)) z;
     }
 
 pub write_behind-requires-clause-room : goal.write_behind-requires-clause-room

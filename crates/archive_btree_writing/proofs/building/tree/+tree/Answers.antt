@@ -273,8 +273,8 @@ build_inner-write_inner-requires-clause-state g t c =
     let state = state_end E m.key_shape m.value_shape m.keys (m.values c.args.nodes.now) s m.parts g.I.Iterator.next_gives c.args.source.now.entries c.args.serializer.now c.args.above up n c.requires.many done (b - 1 + c.loop-i.left) c.loop-i.i c.loop-i.source.entries c.build_tree.new.source.entries c.loop-i.serializer c.build_tree.new.serializer c.build_tree.new.serializer c.loop-i.lesser c.loop-i.own c.in_ok-greater.greater end inv.pointers inv.entries ends.1 inv.opened c.in_ok-greater.ensures.built c.requires.state in
     state.0
 
-pub build_inner-returns-in-Ok-clause-built : goal.build_inner-returns-in-Ok-clause-built
-build_inner-returns-in-Ok-clause-built g t c =
+pub build_inner-returns-clause-built : goal.build_inner-returns-clause-built
+build_inner-returns-clause-built g t c =
     let E = g.row.E in
     let m = g.N.NodeStep in
     let s : WriterMembers g.row.S.Denot = record { known = g.S.Registry.known; pos = g.S.Positional.pos; OBSERVABLE = g.S.Writer.OBSERVABLE; COUNTS = g.S.Writer.COUNTS; contents = g.S.Writer.contents; failures = g.S.Writer.failures; last_error = g.S.Writer.last_error } in
@@ -285,10 +285,10 @@ build_inner-returns-in-Ok-clause-built g t c =
     let done = c.loop-i.source.taken - c.args.source.now.taken in
     let end : c.loop-i.i ≡ E = omega (arith, c.loop-i-test.false, inv.within) in
     let ends = togo_end E c.args.above c.args.wide c.args.last c.requires.some.0 c.requires.wide c.requires.fits c.requires.many c.loop-i.i c.loop-i.left done end inv.left inv.togo in
-    built_inner E m.key_shape m.value_shape m.keys (m.values c.args.nodes.now) s m.parts g.I.Iterator.next_gives c.args.source.now.entries c.args.serializer.now c.args.above up n c.requires.many done (b - 1 + c.loop-i.left) c.loop-i.i c.loop-i.source.entries c.build_tree.new.source.entries c.loop-i.serializer c.build_tree.new.serializer c.write_inner.new.serializer c.loop-i.lesser c.loop-i.own c.in_ok-greater.greater end inv.pointers inv.entries ends.1 inv.opened c.in_ok-greater.ensures.built c.in-Ok.pos c.in-Ok.ensures
+    built_inner E m.key_shape m.value_shape m.keys (m.values c.args.nodes.now) s m.parts g.I.Iterator.next_gives c.args.source.now.entries c.args.serializer.now c.args.above up n c.requires.many done (b - 1 + c.loop-i.left) c.loop-i.i c.loop-i.source.entries c.build_tree.new.source.entries c.loop-i.serializer c.build_tree.new.serializer c.write_inner.new.serializer c.loop-i.lesser c.loop-i.own c.in_ok-greater.greater end inv.pointers inv.entries ends.1 inv.opened c.in_ok-greater.ensures.built c.in_ok-pos.pos c.in_ok-pos.ensures
 
-pub build_inner-returns-in-Err-clause-built : goal.build_inner-returns-in-Err-clause-built
-build_inner-returns-in-Err-clause-built g t c =
+pub build_inner-returns-in_err-pos-clause-built : goal.build_inner-returns-in_err-pos-clause-built
+build_inner-returns-in_err-pos-clause-built g t c =
     let E = g.row.E in
     let m = g.N.NodeStep in
     let s : WriterMembers g.row.S.Denot = record { known = g.S.Registry.known; pos = g.S.Positional.pos; OBSERVABLE = g.S.Writer.OBSERVABLE; COUNTS = g.S.Writer.COUNTS; contents = g.S.Writer.contents; failures = g.S.Writer.failures; last_error = g.S.Writer.last_error } in
@@ -299,7 +299,8 @@ build_inner-returns-in-Err-clause-built g t c =
     let done = c.loop-i.source.taken - c.args.source.now.taken in
     let end : c.loop-i.i ≡ E = omega (arith, c.loop-i-test.false, inv.within) in
     let ends = togo_end E c.args.above c.args.wide c.args.last c.requires.some.0 c.requires.wide c.requires.fits c.requires.many c.loop-i.i c.loop-i.left done end inv.left inv.togo in
-    cut_inner E m.key_shape m.value_shape m.keys (m.values c.args.nodes.now) s m.parts g.I.Iterator.next_gives c.args.source.now.entries c.args.serializer.now c.args.above up n c.requires.many done (b - 1 + c.loop-i.left) c.loop-i.i c.loop-i.source.entries c.build_tree.new.source.entries c.loop-i.serializer c.build_tree.new.serializer c.write_inner.new.serializer c.loop-i.lesser c.loop-i.own c.in_ok-greater.greater end inv.pointers inv.entries ends.1 inv.opened c.in_ok-greater.ensures.built c.args.source.now.claimed c.args.source.now.taken c.in-Err.e c.in-Err.ensures
+    on_err _ _ c.from_residual-in_err-pos.result c.in_err-pos.field-0.0 (search rules)
+    (cut_inner E m.key_shape m.value_shape m.keys (m.values c.args.nodes.now) s m.parts g.I.Iterator.next_gives c.args.source.now.entries c.args.serializer.now c.args.above up n c.requires.many done (b - 1 + c.loop-i.left) c.loop-i.i c.loop-i.source.entries c.build_tree.new.source.entries c.loop-i.serializer c.build_tree.new.serializer c.write_inner.new.serializer c.loop-i.lesser c.loop-i.own c.in_ok-greater.greater end inv.pointers inv.entries ends.1 inv.opened c.in_ok-greater.ensures.built c.args.source.now.claimed c.args.source.now.taken c.in_err-pos.field-0.0 c.in_err-pos.ensures)
 
 -- ---- what is below a lesser pointer
 

@@ -71,8 +71,8 @@ write_leaf-requires g c =
       state = c.requires.state;
     }
 
-pub returns-in-Ok-clause-built : goal.returns-in-Ok-clause-built
-returns-in-Ok-clause-built g c = λ above.
+pub returns-clause-built : goal.returns-clause-built
+returns-clause-built g c = λ above.
     let inv = c.loop-i.invariant in
     let items = take c.args.count c.loop-i.own in
     let end : c.loop-i.i ≡ c.args.count = omega (arith, c.loop-i-test.false, inv.within) in
@@ -82,10 +82,10 @@ returns-in-Ok-clause-built g c = λ above.
     let s : WriterMembers g.row.S.Denot = record { known = g.S.Registry.known; pos = g.S.Positional.pos; OBSERVABLE = g.S.Writer.OBSERVABLE; COUNTS = g.S.Writer.COUNTS; contents = g.S.Writer.contents; failures = g.S.Writer.failures; last_error = g.S.Writer.last_error } in
     let w = packed_spelling g.row.E m.key_shape m.value_shape m.keys (m.values c.args.nodes.now) above in
     leaf_built g.row.E m.key_shape m.value_shape m.keys (m.values c.args.nodes.now) s m.parts g.I.Iterator.next_gives w c.args.source.now.entries c.args.serializer.now c.args.count c.requires.few.0 c.requires.some
-    (map m.parts items) c.loop-i.source.entries (Yields-as m.parts g.I.Iterator.next_gives _ _ items came) (length-map items m.parts ∙ size) c.write_leaf.new.serializer c.in-Ok.pos c.in-Ok.ensures
+    (map m.parts items) c.loop-i.source.entries (Yields-as m.parts g.I.Iterator.next_gives _ _ items came) (length-map items m.parts ∙ size) c.write_leaf.new.serializer c.in_ok-pos.pos c.in_ok-pos.ensures
 
-pub returns-in-Err-clause-built : goal.returns-in-Err-clause-built
-returns-in-Err-clause-built g c = λ above.
+pub returns-in_err-pos-clause-built : goal.returns-in_err-pos-clause-built
+returns-in_err-pos-clause-built g c = λ above.
     let inv = c.loop-i.invariant in
     let items = take c.args.count c.loop-i.own in
     let end : c.loop-i.i ≡ c.args.count = omega (arith, c.loop-i-test.false, inv.within) in
@@ -94,5 +94,6 @@ returns-in-Err-clause-built g c = λ above.
     let m = g.N.NodeStep in
     let s : WriterMembers g.row.S.Denot = record { known = g.S.Registry.known; pos = g.S.Positional.pos; OBSERVABLE = g.S.Writer.OBSERVABLE; COUNTS = g.S.Writer.COUNTS; contents = g.S.Writer.contents; failures = g.S.Writer.failures; last_error = g.S.Writer.last_error } in
     let w = packed_spelling g.row.E m.key_shape m.value_shape m.keys (m.values c.args.nodes.now) above in
-    leaf_cut g.row.E m.key_shape m.value_shape m.keys (m.values c.args.nodes.now) s m.parts g.I.Iterator.next_gives w c.args.source.now.entries c.args.serializer.now c.args.count c.requires.few.0 c.requires.some
-    (map m.parts items) c.loop-i.source.entries (Yields-as m.parts g.I.Iterator.next_gives _ _ items came) (length-map items m.parts ∙ size) c.write_leaf.new.serializer c.args.source.now.claimed c.args.source.now.taken c.in-Err.e c.in-Err.ensures
+    on_err _ _ c.from_residual-in_err-pos.result c.in_err-pos.field-0.0 (search rules)
+    (leaf_cut g.row.E m.key_shape m.value_shape m.keys (m.values c.args.nodes.now) s m.parts g.I.Iterator.next_gives w c.args.source.now.entries c.args.serializer.now c.args.count c.requires.few.0 c.requires.some
+    (map m.parts items) c.loop-i.source.entries (Yields-as m.parts g.I.Iterator.next_gives _ _ items came) (length-map items m.parts ∙ size) c.write_leaf.new.serializer c.args.source.now.claimed c.args.source.now.taken c.in_err-pos.field-0.0 c.in_err-pos.ensures)
