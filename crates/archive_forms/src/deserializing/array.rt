@@ -31,10 +31,8 @@ pub fn deserialize_array_each<
     ensures value { DeserializesArray N A.ReadBack this.entry result }
     ensures keeps { IfOk result (λ _. D.is_of deserializer.new this.entry.bytes.now) }
 {
-    match deserialize_elements_each(array_slice(this), alloc, deserializer, step) {
-        Ok(all) => Ok(<[T; N]>::try_from(all).unwrap()),
-        Err(e) => Err(e),
-    }
+    let all = deserialize_elements_each(array_slice(this), alloc, deserializer, step)?;
+    Ok(<[T; N]>::try_from(all).unwrap())
 }
 
 impl<T, A: ReadBack<T>, const N: usize> ReadBack<[T; N]> for [A; N] {

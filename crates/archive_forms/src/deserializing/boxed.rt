@@ -36,10 +36,7 @@ pub fn deserialize_box_each<
     ensures value { DeserializesBox A.ReadBack this.entry result }
     ensures keeps { IfOk result (λ _. D.is_of deserializer.new this.entry.bytes.now) }
 {
-    let value = match step(deserializer, ArchivedBox::get(this).pos) {
-        Ok(done) => done.0,
-        Err(e) => return Err(e),
-    };
+    let value = step(deserializer, ArchivedBox::get(this).pos)?.0;
     match Box::new(alloc, value) {
         Ok(boxed) => Ok(boxed),
         Err(_) => Err(Error::OutOfMemory),

@@ -47,10 +47,8 @@ pub fn deserialize_boxed_slice_each<
         pos: this.pos,
         of: PhantomData,
     };
-    match deserialize_vec_each::<T, A, D, F>(vector, alloc, deserializer, step) {
-        Ok(all) => Ok(all.into_boxed_slice()),
-        Err(e) => Err(e),
-    }
+    let all = deserialize_vec_each::<T, A, D, F>(vector, alloc, deserializer, step)?;
+    Ok(all.into_boxed_slice())
 }
 
 impl<T, A: ReadBack<T>> ReadBack<BoxedSlice<T>> for ArchivedBoxedSlice<A> {

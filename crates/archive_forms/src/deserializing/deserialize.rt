@@ -49,8 +49,6 @@ pub fn deserialize_element<T: Archive, A: Deserialize<T>>(
     ensures value { DeserializesBy A.reads A.shape A.knows bytes.now pos (λ q. q.0) result }
     ensures keeps { IfOk result (λ _. A.Pool.is_of deserializer.new bytes.now) }
 {
-    match A::deserialize(&Ref::new(bytes, pos), alloc, deserializer) {
-        Ok(value) => Ok((value, PhantomData)),
-        Err(e) => Err(e),
-    }
+    let value = A::deserialize(&Ref::new(bytes, pos), alloc, deserializer)?;
+    Ok((value, PhantomData))
 }

@@ -28,10 +28,7 @@ pub fn deserialize_elements_each<
     let mut all = Vec::new(alloc);
     for index in 0..items.len() {
         let item = items.get(index).unwrap();
-        let value = match step(deserializer, item.pos) {
-            Ok(done) => done.0,
-            Err(e) => return Err(e),
-        };
+        let value = step(deserializer, item.pos)?.0;
         if all.push(value).is_err() {
             return Err(Error::OutOfMemory);
         }

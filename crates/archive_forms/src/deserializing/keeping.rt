@@ -70,8 +70,6 @@ pub(crate) fn keep_clone<P: Clone + Drop, A: ReadBehind<P>, D: Keeps<P, A>>(
         Ok(copy) => copy,
         Err(_) => return Err(Error::OutOfMemory),
     };
-    match deserializer.keep(pos, copy) {
-        Ok(()) => Ok(pointer),
-        Err(e) => Err(e),
-    }
+    deserializer.keep(pos, copy)?;
+    Ok(pointer)
 }

@@ -34,15 +34,10 @@ pub(crate) fn read_value_once<
     ensures unread { ReusesAt D.kept value.entry.pos deserializer.old deserializer.new }
 {
     let pos = value.pos;
-    match deserializer.clone_kept(pos) {
-        Ok(Some(pointer)) => return Ok(pointer),
-        Ok(None) => {}
-        Err(e) => return Err(e),
+    if let Some(pointer) = deserializer.clone_kept(pos)? {
+        return Ok(pointer);
     }
-    let read = match step(deserializer, pos) {
-        Ok(done) => done.0,
-        Err(e) => return Err(e),
-    };
+    let read = step(deserializer, pos)?.0;
     let pointer = match Rc::new(alloc, read) {
         Ok(pointer) => pointer,
         Err(_) => return Err(Error::OutOfMemory),
@@ -68,19 +63,12 @@ pub(crate) fn read_elements_once<
     ensures unread { ReusesElements D.kept items.entry deserializer.old deserializer.new }
 {
     let pos = items.pos;
-    match deserializer.clone_kept(pos) {
-        Ok(Some(pointer)) => {
-            if pointer.len() == items.len() {
-                return Ok(pointer);
-            }
+    if let Some(pointer) = deserializer.clone_kept(pos)? {
+        if pointer.len() == items.len() {
+            return Ok(pointer);
         }
-        Ok(None) => {}
-        Err(e) => return Err(e),
     }
-    let all = match deserialize_elements_each::<T, A, D, F>(items, alloc, deserializer, step) {
-        Ok(all) => all,
-        Err(e) => return Err(e),
-    };
+    let all = deserialize_elements_each::<T, A, D, F>(items, alloc, deserializer, step)?;
     let pointer = match RcSlice::from_vec(all) {
         Ok(pointer) => pointer,
         Err(_) => return Err(Error::OutOfMemory),

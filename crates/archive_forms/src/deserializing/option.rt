@@ -31,10 +31,7 @@ pub fn deserialize_option_each<
 {
     match ArchivedOption::as_ref(this) {
         None => Ok(None),
-        Some(value) => match step(deserializer, value.pos) {
-            Ok(done) => Ok(Some(done.0)),
-            Err(e) => Err(e),
-        },
+        Some(value) => Ok(Some(step(deserializer, value.pos)?.0)),
     }
 }
 

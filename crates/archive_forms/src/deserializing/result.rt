@@ -42,14 +42,8 @@ pub fn deserialize_result_each<
     ensures keeps { IfOk result (λ _. D.is_of deserializer.new this.entry.bytes.now) }
 {
     match ArchivedResult::as_ref(this) {
-        Ok(value) => match step(deserializer, value.pos) {
-            Ok(done) => Ok(Ok(done.0)),
-            Err(e) => Err(e),
-        },
-        Err(error) => match step_of_error(deserializer, error.pos) {
-            Ok(done) => Ok(Err(done.0)),
-            Err(e) => Err(e),
-        },
+        Ok(value) => Ok(Ok(step(deserializer, value.pos)?.0)),
+        Err(error) => Ok(Err(step_of_error(deserializer, error.pos)?.0)),
     }
 }
 

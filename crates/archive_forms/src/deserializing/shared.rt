@@ -45,10 +45,8 @@ pub fn deserialize_rc_each<
 {
     let target = ArchivedRc::get(this);
     let key = target.pos;
-    match read_value_once(target, alloc, deserializer, step) {
-        Ok(value) => Ok(Shared { key, value }),
-        Err(e) => Err(e),
-    }
+    let value = read_value_once(target, alloc, deserializer, step)?;
+    Ok(Shared { key, value })
 }
 
 impl<T, A: ReadBack<T>> ReadBack<Shared<Rc<T>>> for ArchivedRc<A, RcFlavor> {

@@ -46,10 +46,8 @@ pub fn deserialize_rc_slice_each<
 {
     let items = ArchivedRcSlice::get(this);
     let key = items.pos;
-    match read_elements_once(items, alloc, deserializer, step) {
-        Ok(value) => Ok(Shared { key, value }),
-        Err(e) => Err(e),
-    }
+    let value = read_elements_once(items, alloc, deserializer, step)?;
+    Ok(Shared { key, value })
 }
 
 impl<T, A: ReadBack<T>> ReadBack<Shared<RcSlice<T>>> for ArchivedRcSlice<A, RcFlavor> {

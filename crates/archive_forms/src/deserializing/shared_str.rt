@@ -34,23 +34,17 @@ pub fn deserialize_rc_str<D: Keeps<RcStr, Str>>(
 {
     let key = target_of(this.bytes, this.pos);
     let text = ArchivedRcStr::get(this);
-    match deserializer.clone_kept(key) {
-        Ok(Some(value)) => {
-            if value.len() == text.len() {
-                return Ok(Shared { key, value });
-            }
+    if let Some(value) = deserializer.clone_kept(key)? {
+        if value.len() == text.len() {
+            return Ok(Shared { key, value });
         }
-        Ok(None) => {}
-        Err(e) => return Err(e),
     }
     let value = match RcStr::from_str(alloc, text) {
         Ok(value) => value,
         Err(_) => return Err(Error::OutOfMemory),
     };
-    match keep_clone::<RcStr, Str, D>(deserializer, key, value) {
-        Ok(value) => Ok(Shared { key, value }),
-        Err(e) => Err(e),
-    }
+    let value = keep_clone::<RcStr, Str, D>(deserializer, key, value)?;
+    Ok(Shared { key, value })
 }
 
 impl ReadBack<Shared<RcStr>> for ArchivedRcStr<RcFlavor> {

@@ -30,10 +30,7 @@ pub fn deserialize_tuple1_each<
     ensures value { DeserializesTuple1 A.ReadBack this.entry result }
     ensures keeps { IfOk result (λ _. S.is_of deserializer.new this.entry.bytes.now) }
 {
-    let t = match read_first(deserializer, ArchivedTuple1::first(this).pos) {
-        Ok(done) => done.0,
-        Err(e) => return Err(e),
-    };
+    let t = read_first(deserializer, ArchivedTuple1::first(this).pos)?.0;
     Ok((t,))
 }
 

@@ -42,14 +42,8 @@ pub fn deserialize_tuple2_each<
     ensures value { DeserializesTuple2 A.ReadBack B.ReadBack this.entry result }
     ensures keeps { IfOk result (λ _. S.is_of deserializer.new this.entry.bytes.now) }
 {
-    let t = match read_first(deserializer, ArchivedTuple2::first(this).pos) {
-        Ok(done) => done.0,
-        Err(e) => return Err(e),
-    };
-    let u = match read_second(deserializer, ArchivedTuple2::second(this).pos) {
-        Ok(done) => done.0,
-        Err(e) => return Err(e),
-    };
+    let t = read_first(deserializer, ArchivedTuple2::first(this).pos)?.0;
+    let u = read_second(deserializer, ArchivedTuple2::second(this).pos)?.0;
     Ok((t, u))
 }
 

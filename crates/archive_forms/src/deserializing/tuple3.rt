@@ -46,18 +46,9 @@ pub fn deserialize_tuple3_each<
     ensures value { DeserializesTuple3 A.ReadBack B.ReadBack C.ReadBack this.entry result }
     ensures keeps { IfOk result (λ _. S.is_of deserializer.new this.entry.bytes.now) }
 {
-    let t = match read_first(deserializer, ArchivedTuple3::first(this).pos) {
-        Ok(done) => done.0,
-        Err(e) => return Err(e),
-    };
-    let u = match read_second(deserializer, ArchivedTuple3::second(this).pos) {
-        Ok(done) => done.0,
-        Err(e) => return Err(e),
-    };
-    let v = match read_third(deserializer, ArchivedTuple3::third(this).pos) {
-        Ok(done) => done.0,
-        Err(e) => return Err(e),
-    };
+    let t = read_first(deserializer, ArchivedTuple3::first(this).pos)?.0;
+    let u = read_second(deserializer, ArchivedTuple3::second(this).pos)?.0;
+    let v = read_third(deserializer, ArchivedTuple3::third(this).pos)?.0;
     Ok((t, u, v))
 }
 
@@ -83,20 +74,11 @@ impl<
     ) -> Result<(T, U, V), Error> {
         let bytes = this.bytes;
         let at = ArchivedTuple3::first(*this).pos;
-        let t = match deserialize_element::<T, A>(bytes, at, alloc, &mut deserializer.0) {
-            Ok(done) => done.0,
-            Err(e) => return Err(e),
-        };
+        let t = deserialize_element::<T, A>(bytes, at, alloc, &mut deserializer.0)?.0;
         let at = ArchivedTuple3::second(*this).pos;
-        let u = match deserialize_element::<U, B>(bytes, at, alloc, &mut deserializer.1) {
-            Ok(done) => done.0,
-            Err(e) => return Err(e),
-        };
+        let u = deserialize_element::<U, B>(bytes, at, alloc, &mut deserializer.1)?.0;
         let at = ArchivedTuple3::third(*this).pos;
-        let v = match deserialize_element::<V, C>(bytes, at, alloc, &mut deserializer.2) {
-            Ok(done) => done.0,
-            Err(e) => return Err(e),
-        };
+        let v = deserialize_element::<V, C>(bytes, at, alloc, &mut deserializer.2)?.0;
         Ok((t, u, v))
     }
 }

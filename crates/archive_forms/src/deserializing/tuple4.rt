@@ -53,22 +53,10 @@ pub fn deserialize_tuple4_each<
     ensures value { DeserializesTuple4 A.ReadBack B.ReadBack C.ReadBack D.ReadBack this.entry result }
     ensures keeps { IfOk result (λ _. S.is_of deserializer.new this.entry.bytes.now) }
 {
-    let t = match read_first(deserializer, ArchivedTuple4::first(this).pos) {
-        Ok(done) => done.0,
-        Err(e) => return Err(e),
-    };
-    let u = match read_second(deserializer, ArchivedTuple4::second(this).pos) {
-        Ok(done) => done.0,
-        Err(e) => return Err(e),
-    };
-    let v = match read_third(deserializer, ArchivedTuple4::third(this).pos) {
-        Ok(done) => done.0,
-        Err(e) => return Err(e),
-    };
-    let w = match read_fourth(deserializer, ArchivedTuple4::fourth(this).pos) {
-        Ok(done) => done.0,
-        Err(e) => return Err(e),
-    };
+    let t = read_first(deserializer, ArchivedTuple4::first(this).pos)?.0;
+    let u = read_second(deserializer, ArchivedTuple4::second(this).pos)?.0;
+    let v = read_third(deserializer, ArchivedTuple4::third(this).pos)?.0;
+    let w = read_fourth(deserializer, ArchivedTuple4::fourth(this).pos)?.0;
     Ok((t, u, v, w))
 }
 
@@ -97,25 +85,13 @@ impl<
     ) -> Result<(T, U, V, W), Error> {
         let bytes = this.bytes;
         let at = ArchivedTuple4::first(*this).pos;
-        let t = match deserialize_element::<T, A>(bytes, at, alloc, &mut deserializer.0) {
-            Ok(done) => done.0,
-            Err(e) => return Err(e),
-        };
+        let t = deserialize_element::<T, A>(bytes, at, alloc, &mut deserializer.0)?.0;
         let at = ArchivedTuple4::second(*this).pos;
-        let u = match deserialize_element::<U, B>(bytes, at, alloc, &mut deserializer.1) {
-            Ok(done) => done.0,
-            Err(e) => return Err(e),
-        };
+        let u = deserialize_element::<U, B>(bytes, at, alloc, &mut deserializer.1)?.0;
         let at = ArchivedTuple4::third(*this).pos;
-        let v = match deserialize_element::<V, C>(bytes, at, alloc, &mut deserializer.2) {
-            Ok(done) => done.0,
-            Err(e) => return Err(e),
-        };
+        let v = deserialize_element::<V, C>(bytes, at, alloc, &mut deserializer.2)?.0;
         let at = ArchivedTuple4::fourth(*this).pos;
-        let w = match deserialize_element::<W, D>(bytes, at, alloc, &mut deserializer.3) {
-            Ok(done) => done.0,
-            Err(e) => return Err(e),
-        };
+        let w = deserialize_element::<W, D>(bytes, at, alloc, &mut deserializer.3)?.0;
         Ok((t, u, v, w))
     }
 }

@@ -48,12 +48,10 @@ pub fn deserialize_rc_weak_slice_each<
         return Ok(SharedWeak { shared: None });
     };
     let pointer = Ref::<ArchivedRcSlice<A, RcFlavor>>::new(this.bytes, this.pos + 4);
-    match deserialize_rc_slice_each::<T, A, D, F>(pointer, alloc, deserializer, step) {
-        Ok(shared) => Ok(SharedWeak {
-            shared: Some(shared),
-        }),
-        Err(e) => Err(e),
-    }
+    let shared = deserialize_rc_slice_each::<T, A, D, F>(pointer, alloc, deserializer, step)?;
+    Ok(SharedWeak {
+        shared: Some(shared),
+    })
 }
 
 impl<T, A: ReadBack<T>> ReadBack<SharedWeak<RcSlice<T>>> for ArchivedRcWeakSlice<A, RcFlavor> {

@@ -35,12 +35,10 @@ pub fn deserialize_rc_weak_str<D: Keeps<RcStr, Str>>(
         return Ok(SharedWeak { shared: None });
     };
     let pointer = Ref::<ArchivedRcStr<RcFlavor>>::new(this.bytes, this.pos + 4);
-    match deserialize_rc_str(pointer, alloc, deserializer) {
-        Ok(shared) => Ok(SharedWeak {
-            shared: Some(shared),
-        }),
-        Err(e) => Err(e),
-    }
+    let shared = deserialize_rc_str(pointer, alloc, deserializer)?;
+    Ok(SharedWeak {
+        shared: Some(shared),
+    })
 }
 
 impl ReadBack<SharedWeak<RcStr>> for ArchivedRcWeakStr<RcFlavor> {

@@ -23,16 +23,16 @@ deserialize_elements_each-requires-clause-takes g c = rw c.array_slice.ensures.b
     let limit = ap (λ n. n * size_of g.A.Portable.shape) at.1 in
     c.requires.takes d pos (omega (arith, ends, at.0, limit)) there kept)
 
-pub returns-in-Ok-clause-value : goal.returns-in-Ok-clause-value
-returns-in-Ok-clause-value g c =
+pub returns-clause-value : goal.returns-clause-value
+returns-clause-value g c =
     let w = g.A.ReadBack.reads in
     let s = g.A.Portable.shape in
     let knows = g.A.Portable.knows in
     let same = ap (λ bytes. bytes.now) c.array_slice.ensures.bytes in
     let at = c.array_slice.ensures.stands in
-    let items : c.unwrap.result ≡ c.in-Ok.all.items = (ok_says _ _ c.try_from.result c.unwrap.result c.try_from.ensures c.unwrap.ensures).0 in
-    let P : List ℕ → Type 0 = λ bytes. AreReadFrom w s knows bytes c.array_slice.result.pos c.in-Ok.all.items in
-    let Q : ℕ → Type 0 = λ pos. AreReadFrom w s knows c.args.this.bytes.now pos c.in-Ok.all.items in
+    let items : c.unwrap.result ≡ c.in_ok-all.all.items = (ok_says _ _ c.try_from.result c.unwrap.result c.try_from.ensures c.unwrap.ensures).0 in
+    let P : List ℕ → Type 0 = λ bytes. AreReadFrom w s knows bytes c.array_slice.result.pos c.in_ok-all.all.items in
+    let Q : ℕ → Type 0 = λ pos. AreReadFrom w s knows c.args.this.bytes.now pos c.in_ok-all.all.items in
     let R : List g.row.T.Denot → Type 0 = λ xs. AreReadFrom w s knows c.args.this.bytes.now c.args.this.pos xs in
     array_read w s knows c.args.this.bytes.now g.row.N c.args.this.pos c.unwrap.result c.array_slice.ensures.elements
-    (ap length items ∙ c.in-Ok.ensures.values.0 ∙ at.1) (subst R (sym items) (subst Q at.0 (subst P same c.in-Ok.ensures.values.1)))
+    (ap length items ∙ c.in_ok-all.ensures.values.0 ∙ at.1) (subst R (sym items) (subst Q at.0 (subst P same c.in_ok-all.ensures.values.1)))

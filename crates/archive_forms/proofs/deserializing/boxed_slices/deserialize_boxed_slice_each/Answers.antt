@@ -8,7 +8,7 @@ pub deserialize_vec_each-requires-clause-there : goal.deserialize_vec_each-requi
 deserialize_vec_each-requires-clause-there g c =
     has_vector g.A.Portable.shape c.args.this.bytes.now c.args.this.pos g.A.Portable.knows c.requires.there
 
-pub returns-in-Ok-clause-value : goal.returns-in-Ok-clause-value
-returns-in-Ok-clause-value g c = λ v held.
+pub returns-clause-value : goal.returns-clause-value
+returns-clause-value g c = λ v held.
     subst (reads_all g.A.ReadBack.reads (erased v)) (sym c.into_boxed_slice.ensures.items)
-    (c.in-Ok.ensures.value v (as_vector g.A.Portable.shape c.args.this.bytes.now c.args.this.pos g.A.Portable.knows v held))
+    (c.in_ok-all.ensures.value v (as_vector g.A.Portable.shape c.args.this.bytes.now c.args.this.pos g.A.Portable.knows v held))

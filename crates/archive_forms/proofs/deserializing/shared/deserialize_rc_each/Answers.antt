@@ -12,17 +12,17 @@ read_value_once-requires-clause-takes g c = rw c.get-target.ensures.bytes (λ d 
     let before = rc_before g.A.Portable.shape g.A.Portable.knows c.args.this.bytes.now c.args.this.pos _ c.get-target.ensures.value c.requires.there in
     c.requires.takes d pos (omega (arith, ends, before)) there kept)
 
-pub returns-in-Ok-clause-value : goal.returns-in-Ok-clause-value
-returns-in-Ok-clause-value g c =
-    let P : List ℕ → Type 0 = λ bytes. IsReadAt g.A.ReadBack.reads g.A.Portable.shape g.A.Portable.knows bytes c.get-target.result.pos c.in-Ok.value.value in
+pub returns-clause-value : goal.returns-clause-value
+returns-clause-value g c =
+    let P : List ℕ → Type 0 = λ bytes. IsReadAt g.A.ReadBack.reads g.A.Portable.shape g.A.Portable.knows bytes c.get-target.result.pos c.in_ok-value.value.value in
     rc_read g.A.Portable.shape g.A.Portable.knows c.args.this.bytes.now c.args.this.pos _ c.get-target.ensures.value g.A.ReadBack.reads _ _ refl
-    (subst P (ap (λ bytes. bytes.now) c.get-target.ensures.bytes) c.in-Ok.ensures.value)
+    (subst P (ap (λ bytes. bytes.now) c.get-target.ensures.bytes) c.in_ok-value.ensures.value)
 
-pub returns-in-Ok-clause-key : goal.returns-in-Ok-clause-key
-returns-in-Ok-clause-key g c = search rules
+pub returns-clause-key : goal.returns-clause-key
+returns-clause-key g c = search rules
 
-pub returns-in-Ok-clause-pooled : goal.returns-in-Ok-clause-pooled
-returns-in-Ok-clause-pooled g c = search rules
+pub returns-clause-pooled : goal.returns-clause-pooled
+returns-clause-pooled g c = search rules
 
-pub returns-in-Ok-clause-unread : goal.returns-in-Ok-clause-unread
-returns-in-Ok-clause-unread g c = search rules
+pub returns-clause-unread : goal.returns-clause-unread
+returns-clause-unread g c = search rules

@@ -13,8 +13,8 @@ read_elements_once-requires-clause-takes g c = rw c.get-items.ensures.bytes (λ 
     let before = rc_slice_before g.A.Portable.shape g.A.Portable.knows c.args.this.bytes.now c.args.this.pos _ _ c.get-items.ensures.elements c.requires.there in
     c.requires.takes d pos (omega (arith, ends, before)) there kept)
 
-pub returns-in-Ok-clause-value : goal.returns-in-Ok-clause-value
-returns-in-Ok-clause-value g c =
-    let P : List ℕ → Type 0 = λ bytes. AreReadFrom g.A.ReadBack.reads g.A.Portable.shape g.A.Portable.knows bytes c.get-items.result.pos (rc_slice_items c.in-Ok.value) in
+pub returns-clause-value : goal.returns-clause-value
+returns-clause-value g c =
+    let P : List ℕ → Type 0 = λ bytes. AreReadFrom g.A.ReadBack.reads g.A.Portable.shape g.A.Portable.knows bytes c.get-items.result.pos (rc_slice_items c.in_ok-value.value) in
     rc_slice_read g.A.Portable.shape g.A.Portable.knows c.args.this.bytes.now c.args.this.pos _ _ c.get-items.ensures.elements g.A.ReadBack.reads _ _ refl
-    c.in-Ok.ensures.values.0 (subst P (ap (λ bytes. bytes.now) c.get-items.ensures.bytes) c.in-Ok.ensures.values.1)
+    c.in_ok-value.ensures.values.0 (subst P (ap (λ bytes. bytes.now) c.get-items.ensures.bytes) c.in_ok-value.ensures.values.1)

@@ -17,10 +17,10 @@ pub returns-then-len-text-clause-value : goal.returns-then-len-text-clause-value
 returns-then-len-text-clause-value g c =
     let bytes = c.args.this.bytes.now in
     let key = c.target_of-key.result in
-    let value = c.in-Ok-Some.value in
+    let value = c.in-Some.value in
     let text = c.get-text.result.now in
     let there = c.get-text.ensures in
-    let found = kept_of _ (g.D.Keeps.kept c.args.deserializer.now key) value (rw c.in-Ok-Some.field-0-is at c.in-Ok-Some.ensures) in
+    let found = kept_of _ (g.D.Keeps.kept c.args.deserializer.now key) value (rw c.in-Some.is at c.in_ok-value.ensures) in
     let read = g.met.D.Keeps.kept_is_read c.args.deserializer.now bytes key found.0 c.requires.kept found.1 in
     let stands : IsTextAt bytes key (rc_str_bytes value) = subst (IsTextAt bytes key) (sym found.2) read in
     let long : length (rc_str_bytes value) ≡ length text = search rules in
@@ -30,8 +30,8 @@ returns-then-len-text-clause-value g c =
     let same : rc_str_bytes value ≡ text = stands ∙ (ap (window bytes key) (long ∙ size) ∙ sym is) in
     rc_str_read bytes c.args.this.pos there.0 there.1 (record { key = key; value = value }) there.2 (same ∙ there.3)
 
-pub returns-in-Ok-keep_clone-clause-value : goal.returns-in-Ok-keep_clone-clause-value
-returns-in-Ok-keep_clone-clause-value g c =
+pub returns-clause-value : goal.returns-clause-value
+returns-clause-value g c =
     let there = c.get-text.ensures in
-    rc_str_read c.args.this.bytes.now c.args.this.pos there.0 there.1 (record { key = c.target_of-key.result; value = c.in-Ok-keep_clone.value }) there.2
-    (ap rc_str_bytes c.in-Ok-keep_clone.ensures.value ∙ (c.in-Ok.ensures.ok ∙ there.3))
+    rc_str_read c.args.this.bytes.now c.args.this.pos there.0 there.1 (record { key = c.target_of-key.result; value = c.in_ok-value-2.value }) there.2
+    (ap rc_str_bytes c.in_ok-value-2.ensures.value ∙ (c.in-Ok.ensures.ok ∙ there.3))

@@ -1,4 +1,4 @@
-use Rattle.std.proofs.Common.{[], ◌∷◌}
+use Rattle.std.proofs.Common.{rules, [], ◌∷◌}
 use Rattle.archive_shape_layout.specs.Shape.Shapes.{no_shapes, more_shapes}
 use Rattle.archive_forms_values.specs.Fields.{field}
 use Rattle.archive_forms.proofs.Fields.{field_has, first_ends, field_ends, tuple_has, none_read, field_read, tuple_read}
@@ -10,49 +10,52 @@ read_first-requires g c =
     let all = tuple_has (field g.A.Portable.shape g.A.Portable.knows ∷ field g.B.Portable.shape g.B.Portable.knows ∷ field g.C.Portable.shape g.C.Portable.knows ∷ []) _ bytes c.args.this.pos c.first.ensures.value c.requires.there in
     c.requires.takes_first _ _ (first_ends g.A.Portable.shape (more_shapes g.B.Portable.shape (more_shapes g.C.Portable.shape no_shapes)) c.args.this.pos _ c.first.ensures.pos) (field_has (field g.A.Portable.shape g.A.Portable.knows) bytes _ _ _ _ c.first.ensures.pos all.each) c.requires.kept
 
-pub returns-in-Err-clause-value : goal.returns-in-Err-clause-value
-returns-in-Err-clause-value g c =
+pub returns-in_err-t-clause-value : goal.returns-in_err-t-clause-value
+returns-in_err-t-clause-value g c =
     let bytes = c.args.this.bytes.now in
     let all = tuple_has (field g.A.Portable.shape g.A.Portable.knows ∷ field g.B.Portable.shape g.B.Portable.knows ∷ field g.C.Portable.shape g.C.Portable.knows ∷ []) _ bytes c.args.this.pos c.first.ensures.value c.requires.there in
-    (c.requires.reads_first _ _ _ _ (field_has (field g.A.Portable.shape g.A.Portable.knows) bytes _ _ _ _ c.first.ensures.pos all.each) c.requires.kept c.in-Err.ensures).0
+    let is = (c.requires.reads_first _ _ _ _ (field_has (field g.A.Portable.shape g.A.Portable.knows) bytes _ _ _ _ c.first.ensures.pos all.each) c.requires.kept c.in_err-t.ensures).0 in
+    search rules
 
 pub read_second-requires : goal.read_second-requires
 read_second-requires g c =
     let bytes = c.args.this.bytes.now in
     let all = tuple_has (field g.A.Portable.shape g.A.Portable.knows ∷ field g.B.Portable.shape g.B.Portable.knows ∷ field g.C.Portable.shape g.C.Portable.knows ∷ []) _ bytes c.args.this.pos c.first.ensures.value c.requires.there in
-    let after_first = c.requires.reads_first _ _ _ _ (field_has (field g.A.Portable.shape g.A.Portable.knows) bytes _ _ _ _ c.first.ensures.pos all.each) c.requires.kept c.in-Ok.ensures in
+    let after_first = c.requires.reads_first _ _ _ _ (field_has (field g.A.Portable.shape g.A.Portable.knows) bytes _ _ _ _ c.first.ensures.pos all.each) c.requires.kept c.in_ok-t.ensures in
     c.requires.takes_second _ _ (field_ends g.A.Portable.shape no_shapes g.B.Portable.shape (more_shapes g.C.Portable.shape no_shapes) c.args.this.pos _ c.second.ensures.pos) (field_has (field g.B.Portable.shape g.B.Portable.knows) bytes _ _ _ _ c.second.ensures.pos all.each.rest) after_first.1
 
-pub returns-in-Err-read_second-clause-value : goal.returns-in-Err-read_second-clause-value
-returns-in-Err-read_second-clause-value g c =
+pub returns-in_err-u-clause-value : goal.returns-in_err-u-clause-value
+returns-in_err-u-clause-value g c =
     let bytes = c.args.this.bytes.now in
     let all = tuple_has (field g.A.Portable.shape g.A.Portable.knows ∷ field g.B.Portable.shape g.B.Portable.knows ∷ field g.C.Portable.shape g.C.Portable.knows ∷ []) _ bytes c.args.this.pos c.first.ensures.value c.requires.there in
-    let after_first = c.requires.reads_first _ _ _ _ (field_has (field g.A.Portable.shape g.A.Portable.knows) bytes _ _ _ _ c.first.ensures.pos all.each) c.requires.kept c.in-Ok.ensures in
-    (c.requires.reads_second _ _ _ _ (field_has (field g.B.Portable.shape g.B.Portable.knows) bytes _ _ _ _ c.second.ensures.pos all.each.rest) after_first.1 c.in-Err-read_second.ensures).0
+    let after_first = c.requires.reads_first _ _ _ _ (field_has (field g.A.Portable.shape g.A.Portable.knows) bytes _ _ _ _ c.first.ensures.pos all.each) c.requires.kept c.in_ok-t.ensures in
+    let is = (c.requires.reads_second _ _ _ _ (field_has (field g.B.Portable.shape g.B.Portable.knows) bytes _ _ _ _ c.second.ensures.pos all.each.rest) after_first.1 c.in_err-u.ensures).0 in
+    search rules
 
 pub read_third-requires : goal.read_third-requires
 read_third-requires g c =
     let bytes = c.args.this.bytes.now in
     let all = tuple_has (field g.A.Portable.shape g.A.Portable.knows ∷ field g.B.Portable.shape g.B.Portable.knows ∷ field g.C.Portable.shape g.C.Portable.knows ∷ []) _ bytes c.args.this.pos c.first.ensures.value c.requires.there in
-    let after_first = c.requires.reads_first _ _ _ _ (field_has (field g.A.Portable.shape g.A.Portable.knows) bytes _ _ _ _ c.first.ensures.pos all.each) c.requires.kept c.in-Ok.ensures in
-    let after_second = c.requires.reads_second _ _ _ _ (field_has (field g.B.Portable.shape g.B.Portable.knows) bytes _ _ _ _ c.second.ensures.pos all.each.rest) after_first.1 c.in-Ok-read_second.ensures in
+    let after_first = c.requires.reads_first _ _ _ _ (field_has (field g.A.Portable.shape g.A.Portable.knows) bytes _ _ _ _ c.first.ensures.pos all.each) c.requires.kept c.in_ok-t.ensures in
+    let after_second = c.requires.reads_second _ _ _ _ (field_has (field g.B.Portable.shape g.B.Portable.knows) bytes _ _ _ _ c.second.ensures.pos all.each.rest) after_first.1 c.in_ok-u.ensures in
     c.requires.takes_third _ _ (field_ends g.A.Portable.shape (more_shapes g.B.Portable.shape no_shapes) g.C.Portable.shape no_shapes c.args.this.pos _ c.third.ensures.pos) (field_has (field g.C.Portable.shape g.C.Portable.knows) bytes _ _ _ _ c.third.ensures.pos all.each.rest.rest) after_second.1
 
-pub returns-in-Err-read_third-clause-value : goal.returns-in-Err-read_third-clause-value
-returns-in-Err-read_third-clause-value g c =
+pub returns-in_err-v-clause-value : goal.returns-in_err-v-clause-value
+returns-in_err-v-clause-value g c =
     let bytes = c.args.this.bytes.now in
     let all = tuple_has (field g.A.Portable.shape g.A.Portable.knows ∷ field g.B.Portable.shape g.B.Portable.knows ∷ field g.C.Portable.shape g.C.Portable.knows ∷ []) _ bytes c.args.this.pos c.first.ensures.value c.requires.there in
-    let after_first = c.requires.reads_first _ _ _ _ (field_has (field g.A.Portable.shape g.A.Portable.knows) bytes _ _ _ _ c.first.ensures.pos all.each) c.requires.kept c.in-Ok.ensures in
-    let after_second = c.requires.reads_second _ _ _ _ (field_has (field g.B.Portable.shape g.B.Portable.knows) bytes _ _ _ _ c.second.ensures.pos all.each.rest) after_first.1 c.in-Ok-read_second.ensures in
-    (c.requires.reads_third _ _ _ _ (field_has (field g.C.Portable.shape g.C.Portable.knows) bytes _ _ _ _ c.third.ensures.pos all.each.rest.rest) after_second.1 c.in-Err-read_third.ensures).0
+    let after_first = c.requires.reads_first _ _ _ _ (field_has (field g.A.Portable.shape g.A.Portable.knows) bytes _ _ _ _ c.first.ensures.pos all.each) c.requires.kept c.in_ok-t.ensures in
+    let after_second = c.requires.reads_second _ _ _ _ (field_has (field g.B.Portable.shape g.B.Portable.knows) bytes _ _ _ _ c.second.ensures.pos all.each.rest) after_first.1 c.in_ok-u.ensures in
+    let is = (c.requires.reads_third _ _ _ _ (field_has (field g.C.Portable.shape g.C.Portable.knows) bytes _ _ _ _ c.third.ensures.pos all.each.rest.rest) after_second.1 c.in_err-v.ensures).0 in
+    search rules
 
 pub returns-clause-value : goal.returns-clause-value
 returns-clause-value g c =
     let bytes = c.args.this.bytes.now in
     let all = tuple_has (field g.A.Portable.shape g.A.Portable.knows ∷ field g.B.Portable.shape g.B.Portable.knows ∷ field g.C.Portable.shape g.C.Portable.knows ∷ []) _ bytes c.args.this.pos c.first.ensures.value c.requires.there in
-    let after_first = c.requires.reads_first _ _ _ _ (field_has (field g.A.Portable.shape g.A.Portable.knows) bytes _ _ _ _ c.first.ensures.pos all.each) c.requires.kept c.in-Ok.ensures in
-    let after_second = c.requires.reads_second _ _ _ _ (field_has (field g.B.Portable.shape g.B.Portable.knows) bytes _ _ _ _ c.second.ensures.pos all.each.rest) after_first.1 c.in-Ok-read_second.ensures in
-    let after_third = c.requires.reads_third _ _ _ _ (field_has (field g.C.Portable.shape g.C.Portable.knows) bytes _ _ _ _ c.third.ensures.pos all.each.rest.rest) after_second.1 c.in-Ok-read_third.ensures in
+    let after_first = c.requires.reads_first _ _ _ _ (field_has (field g.A.Portable.shape g.A.Portable.knows) bytes _ _ _ _ c.first.ensures.pos all.each) c.requires.kept c.in_ok-t.ensures in
+    let after_second = c.requires.reads_second _ _ _ _ (field_has (field g.B.Portable.shape g.B.Portable.knows) bytes _ _ _ _ c.second.ensures.pos all.each.rest) after_first.1 c.in_ok-u.ensures in
+    let after_third = c.requires.reads_third _ _ _ _ (field_has (field g.C.Portable.shape g.C.Portable.knows) bytes _ _ _ _ c.third.ensures.pos all.each.rest.rest) after_second.1 c.in_ok-v.ensures in
     tuple_read (field g.A.Portable.shape g.A.Portable.knows ∷ field g.B.Portable.shape g.B.Portable.knows ∷ field g.C.Portable.shape g.C.Portable.knows ∷ []) _ bytes c.args.this.pos _ c.first.ensures.value
     (field_read g.A.ReadBack.reads (field g.A.Portable.shape g.A.Portable.knows) bytes _ _ _ _ _ c.first.ensures.pos after_first.0
     (field_read g.B.ReadBack.reads (field g.B.Portable.shape g.B.Portable.knows) bytes _ _ _ _ _ c.second.ensures.pos after_second.0
@@ -63,7 +66,7 @@ pub returns-clause-keeps : goal.returns-clause-keeps
 returns-clause-keeps g c =
     let bytes = c.args.this.bytes.now in
     let all = tuple_has (field g.A.Portable.shape g.A.Portable.knows ∷ field g.B.Portable.shape g.B.Portable.knows ∷ field g.C.Portable.shape g.C.Portable.knows ∷ []) _ bytes c.args.this.pos c.first.ensures.value c.requires.there in
-    let after_first = c.requires.reads_first _ _ _ _ (field_has (field g.A.Portable.shape g.A.Portable.knows) bytes _ _ _ _ c.first.ensures.pos all.each) c.requires.kept c.in-Ok.ensures in
-    let after_second = c.requires.reads_second _ _ _ _ (field_has (field g.B.Portable.shape g.B.Portable.knows) bytes _ _ _ _ c.second.ensures.pos all.each.rest) after_first.1 c.in-Ok-read_second.ensures in
-    let after_third = c.requires.reads_third _ _ _ _ (field_has (field g.C.Portable.shape g.C.Portable.knows) bytes _ _ _ _ c.third.ensures.pos all.each.rest.rest) after_second.1 c.in-Ok-read_third.ensures in
+    let after_first = c.requires.reads_first _ _ _ _ (field_has (field g.A.Portable.shape g.A.Portable.knows) bytes _ _ _ _ c.first.ensures.pos all.each) c.requires.kept c.in_ok-t.ensures in
+    let after_second = c.requires.reads_second _ _ _ _ (field_has (field g.B.Portable.shape g.B.Portable.knows) bytes _ _ _ _ c.second.ensures.pos all.each.rest) after_first.1 c.in_ok-u.ensures in
+    let after_third = c.requires.reads_third _ _ _ _ (field_has (field g.C.Portable.shape g.C.Portable.knows) bytes _ _ _ _ c.third.ensures.pos all.each.rest.rest) after_second.1 c.in_ok-v.ensures in
     after_third.1

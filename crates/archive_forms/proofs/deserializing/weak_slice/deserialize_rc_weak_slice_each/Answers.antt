@@ -21,10 +21,10 @@ deserialize_rc_slice_each-requires-clause-there g c =
 pub deserialize_rc_slice_each-requires-clause-takes : goal.deserialize_rc_slice_each-requires-clause-takes
 deserialize_rc_slice_each-requires-clause-takes g c = rw (c.new-pointer.ensures.bytes, c.new-pointer.ensures.pos) c.requires.takes
 
-pub returns-in-Ok-clause-value : goal.returns-in-Ok-clause-value
-returns-in-Ok-clause-value g c =
-    pointer_read (slice g.A.Portable.shape) g.A.Portable.knows c.args.this.bytes.now c.args.this.pos (reads_in (λ (x : Shared (RcSlice g.row.T.Denot Global)). rc_slice_items x.value) (reads_counted (reads_all g.A.ReadBack.reads))) c.in-Some.ensures.1 c.in-Ok.shared
-    (rw (← c.new-pointer.ensures.bytes, ← c.new-pointer.ensures.pos) c.in-Ok.ensures.value)
+pub returns-clause-value : goal.returns-clause-value
+returns-clause-value g c =
+    pointer_read (slice g.A.Portable.shape) g.A.Portable.knows c.args.this.bytes.now c.args.this.pos (reads_in (λ (x : Shared (RcSlice g.row.T.Denot Global)). rc_slice_items x.value) (reads_counted (reads_all g.A.ReadBack.reads))) c.in-Some.ensures.1 c.in_ok-shared.shared
+    (rw (← c.new-pointer.ensures.bytes, ← c.new-pointer.ensures.pos) c.in_ok-shared.ensures.value)
 
-pub returns-in-Ok-clause-key : goal.returns-in-Ok-clause-key
-returns-in-Ok-clause-key g c = (c.in-Some.ensures.1, rw (← c.new-pointer.ensures.bytes, ← c.new-pointer.ensures.pos) c.in-Ok.ensures.key)
+pub returns-clause-key : goal.returns-clause-key
+returns-clause-key g c = (c.in-Some.ensures.1, rw (← c.new-pointer.ensures.bytes, ← c.new-pointer.ensures.pos) c.in_ok-shared.ensures.key)

@@ -16,10 +16,10 @@ deserialize_rc_str-requires-clause-there g c =
     rw (c.new-pointer.ensures.bytes, c.new-pointer.ensures.pos)
     (pointer_has false str (λ _. ⊤) c.args.this.bytes.now c.args.this.pos c.in-Some.ensures.0 c.requires.there)
 
-pub returns-in-Ok-clause-value : goal.returns-in-Ok-clause-value
-returns-in-Ok-clause-value g c =
-    pointer_read str (λ _. ⊤) c.args.this.bytes.now c.args.this.pos (reads_as shared_str_rc_spelling) c.in-Some.ensures.0 c.in-Ok.shared
-    (rw (← c.new-pointer.ensures.bytes, ← c.new-pointer.ensures.pos) c.in-Ok.ensures.value)
+pub returns-clause-value : goal.returns-clause-value
+returns-clause-value g c =
+    pointer_read str (λ _. ⊤) c.args.this.bytes.now c.args.this.pos (reads_as shared_str_rc_spelling) c.in-Some.ensures.0 c.in_ok-shared.shared
+    (rw (← c.new-pointer.ensures.bytes, ← c.new-pointer.ensures.pos) c.in_ok-shared.ensures.value)
 
-pub returns-in-Ok-clause-key : goal.returns-in-Ok-clause-key
-returns-in-Ok-clause-key g c = (c.in-Some.ensures.0, rw (← c.new-pointer.ensures.bytes, ← c.new-pointer.ensures.pos) c.in-Ok.ensures.key)
+pub returns-clause-key : goal.returns-clause-key
+returns-clause-key g c = (c.in-Some.ensures.0, rw (← c.new-pointer.ensures.bytes, ← c.new-pointer.ensures.pos) c.in_ok-shared.ensures.key)

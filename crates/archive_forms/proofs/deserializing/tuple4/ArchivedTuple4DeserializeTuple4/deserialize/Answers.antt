@@ -31,8 +31,8 @@ pub returns-clause-value : goal.returns-clause-value
 returns-clause-value g c =
     let bytes = c.args.this.now.bytes.now in
     tuple_read (field g.A.Portable.shape g.A.Portable.knows ∷ field g.B.Portable.shape g.B.Portable.knows ∷ field g.C.Portable.shape g.C.Portable.knows ∷ field g.D.Portable.shape g.D.Portable.knows ∷ []) _ bytes c.args.this.now.pos _ c.first-at.ensures.value
-    (field_read g.A.ReadBack.reads (field g.A.Portable.shape g.A.Portable.knows) bytes _ _ _ _ _ c.first-at.ensures.pos c.in-Ok.ensures.value
-    (field_read g.B.ReadBack.reads (field g.B.Portable.shape g.B.Portable.knows) bytes _ _ _ _ _ c.second-at.ensures.pos c.in-Ok-deserialize_element.ensures.value
-    (field_read g.C.ReadBack.reads (field g.C.Portable.shape g.C.Portable.knows) bytes _ _ _ _ _ c.third-at.ensures.pos c.in-Ok-deserialize_element-2.ensures.value
-    (field_read g.D.ReadBack.reads (field g.D.Portable.shape g.D.Portable.knows) bytes _ _ _ _ _ c.fourth-at.ensures.pos c.in-Ok-deserialize_element-3.ensures.value
+    (field_read g.A.ReadBack.reads (field g.A.Portable.shape g.A.Portable.knows) bytes _ _ _ _ _ c.first-at.ensures.pos c.in_ok-t.ensures.value
+    (field_read g.B.ReadBack.reads (field g.B.Portable.shape g.B.Portable.knows) bytes _ _ _ _ _ c.second-at.ensures.pos c.in_ok-u.ensures.value
+    (field_read g.C.ReadBack.reads (field g.C.Portable.shape g.C.Portable.knows) bytes _ _ _ _ _ c.third-at.ensures.pos c.in_ok-v.ensures.value
+    (field_read g.D.ReadBack.reads (field g.D.Portable.shape g.D.Portable.knows) bytes _ _ _ _ _ c.fourth-at.ensures.pos c.in_ok-w.ensures.value
     none_read))))
