@@ -20,10 +20,8 @@ pub fn to_bytes_in_with_alloc<
 {
     let sharing = Share::new(allocator.memory());
     let mut serializer = Serializer::new(writer, allocator, sharing);
-    match serialize_using(value, &mut serializer) {
-        Ok(_) => Ok(serializer.into_writer()),
-        Err(e) => Err(e),
-    }
+    serialize_using(value, &mut serializer)?;
+    Ok(serializer.into_writer())
 }
 
 /// Writes the data of a value and then its own bytes, as the root at the end of an archive. Returns the writer, which
