@@ -46,20 +46,12 @@ fn insert_read<
         (IsReadAt B.reads B.shape B.knows bytes.entry.now value) map.old.entries map.new.entries result }
     ensures keeps { IfOk result (λ _. D.is_of deserializer.new bytes.entry.now) }
 {
-    let key = match read_key(deserializer, key) {
-        Ok(done) => done.0,
-        Err(e) => return Err(e),
-    };
-    match read_value(deserializer, value) {
-        Ok(done) => {
-            let value = done.0;
-            if map.insert(key, value).is_err() {
-                Err(Error::OutOfMemory)
-            } else {
-                Ok(())
-            }
-        }
-        Err(e) => Err(e),
+    let key = read_key(deserializer, key)?.0;
+    let value = read_value(deserializer, value)?.0;
+    if map.insert(key, value).is_err() {
+        Err(Error::OutOfMemory)
+    } else {
+        Ok(())
     }
 }
 
@@ -102,7 +94,7 @@ pub fn deserialize_map_each<
     let mut map = BTreeMap::new(alloc);
     let mut entries = ArchivedBTreeMap::iter(this);
     while let Some((key, value)) = entries.next() {
-        match insert_read::<K, V, A, B, D, F, G>(
+        insert_read::<K, V, A, B, D, F, G>(
             &mut map,
             this.bytes,
             key.pos,
@@ -110,10 +102,7 @@ pub fn deserialize_map_each<
             deserializer,
             &read_key,
             &read_value,
-        ) {
-            Ok(()) => {}
-            Err(e) => return Err(e),
-        }
+        )?;
     }
     Ok(OwnedBTreeMap { map })
 }

@@ -50,16 +50,14 @@ pub(crate) fn serialize_from_ordered_iter_with_each<
         return Err(Error::OutOfMemory);
     }
     let nodes = NodeWriter { with, step };
-    match build_tree_each::<(&'a K, &'a V), S, _, I, E>(
+    let pos = build_tree_each::<(&'a K, &'a V), S, _, I, E>(
         claimed,
         entries,
         serializer,
         &nodes,
         PhantomData,
-    ) {
-        Ok(pos) => Ok(BTreeMapResolver { pos }),
-        Err(e) => Err(e),
-    }
+    )?;
+    Ok(BTreeMapResolver { pos })
 }
 
 /// Writes the search tree of the entries of a map, which come in order and whose data is written by a step. `claimed`

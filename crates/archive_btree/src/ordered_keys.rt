@@ -76,14 +76,12 @@ pub fn serialize_set_from_ordered_iter<
         keys,
         of: PhantomData,
     };
-    match build_tree_each::<(&'a K, &'a ()), S, _, KeyEntries<'a, K, I>, E>(
+    let pos = build_tree_each::<(&'a K, &'a ()), S, _, KeyEntries<'a, K, I>, E>(
         claimed,
         entries,
         serializer,
         &nodes,
         PhantomData,
-    ) {
-        Ok(pos) => Ok(BTreeSetResolver { pos }),
-        Err(e) => Err(e),
-    }
+    )?;
+    Ok(BTreeSetResolver { pos })
 }

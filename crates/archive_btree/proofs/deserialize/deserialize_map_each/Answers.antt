@@ -41,8 +41,8 @@ pub loop-key-preserved : goal.loop-key-preserved
 loop-key-preserved g c =
     let i = c.loop-key.invariant in
     let n = next_place c.args.this.bytes i.0 c.in-Some.key c.in-Some.value c.loop-key.entries _ i.1 c.in-Some.ensures.steps in
-    let x = c.in-Ok.ensures.value in
-    (n.more, n.rest_is, entry_read g.row.E g.A.ReadBack.reads g.B.ReadBack.reads g.A.Portable.shape g.B.Portable.shape g.A.Portable.knows g.B.Portable.knows c.args.this.bytes.now g.K.Ord.cmp c.args.this.pos c.args.this.bytes i.0 c.in-Some.key c.in-Some.value _ c.loop-key.map.entries c.insert_read.new.map.entries x.0 i.2 n x.1 x.2 x.3, c.in-Ok.ensures.keeps)
+    let x = c.in_ok-insert_read.ensures.value in
+    (n.more, n.rest_is, entry_read g.row.E g.A.ReadBack.reads g.B.ReadBack.reads g.A.Portable.shape g.B.Portable.shape g.A.Portable.knows g.B.Portable.knows c.args.this.bytes.now g.K.Ord.cmp c.args.this.pos c.args.this.bytes i.0 c.in-Some.key c.in-Some.value _ c.loop-key.map.entries c.insert_read.new.map.entries x.0 i.2 n x.1 x.2 x.3, c.in_ok-insert_read.ensures.keeps)
 
 pub returns-clause-value : goal.returns-clause-value
 returns-clause-value g c =

@@ -12,5 +12,5 @@ returns-then-this-gt-MAX_ENTRIES g c =
     inl
     (none_begun (btree_spelling g.row.E g.K.Archived.Portable.shape g.A.Archived.Portable.shape g.K.Archive.spelling (g.A.ArchiveWith.spelling c.args.with.now)) s (GivesAs deref_pair g.I.Iterator.next_gives) c.args.claimed c.args.entries c.args.serializer.now)
 
-pub returns-in-Ok : goal.returns-in-Ok
-returns-in-Ok g c = c.in-Ok.ensures
+pub returns : goal.returns
+returns g c = c.in_ok-pos.ensures

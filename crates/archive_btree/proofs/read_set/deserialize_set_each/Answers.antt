@@ -24,23 +24,24 @@ read_key-requires g c =
     let has = next_has g.row.E g.A.ReadBack.reads (reads_as unit_spelling) g.A.Portable.shape (tuple no_shapes) g.A.Portable.knows (λ _. ⊤) c.args.this.bytes.now g.K.Ord.cmp c.args.this.pos c.args.this.bytes i.0 c.in-Some.key c.in-Some._value _ (key_entries c.loop-key.set.keys) i.2 n in
     c.requires.takes_key _ _ has.0.held.own_within has.0 i.3
 
-pub returns-in-Err-clause-value : goal.returns-in-Err-clause-value
-returns-in-Err-clause-value g c =
+pub returns-in_err-key-clause-value : goal.returns-in_err-key-clause-value
+returns-in_err-key-clause-value g c =
     let i = c.loop-key.invariant in
     let n = next_place c.args.this.bytes i.0 c.in-Some.key c.in-Some._value c.loop-key.entries _ i.1 c.in-Some.ensures.steps in
     let has = next_has g.row.E g.A.ReadBack.reads (reads_as unit_spelling) g.A.Portable.shape (tuple no_shapes) g.A.Portable.knows (λ _. ⊤) c.args.this.bytes.now g.K.Ord.cmp c.args.this.pos c.args.this.bytes i.0 c.in-Some.key c.in-Some._value _ (key_entries c.loop-key.set.keys) i.2 n in
-    (c.requires.reads_key _ _ _ _ has.0 i.3 c.in-Err.ensures).0
+    let is = (c.requires.reads_key _ _ _ _ has.0 i.3 c.in_err-key.ensures).0 in
+    search rules
 
 pub loop-key-preserved : goal.loop-key-preserved
 loop-key-preserved g c =
     let i = c.loop-key.invariant in
     let n = next_place c.args.this.bytes i.0 c.in-Some.key c.in-Some._value c.loop-key.entries _ i.1 c.in-Some.ensures.steps in
     let has = next_has g.row.E g.A.ReadBack.reads (reads_as unit_spelling) g.A.Portable.shape (tuple no_shapes) g.A.Portable.knows (λ _. ⊤) c.args.this.bytes.now g.K.Ord.cmp c.args.this.pos c.args.this.bytes i.0 c.in-Some.key c.in-Some._value _ (key_entries c.loop-key.set.keys) i.2 n in
-    let key = c.requires.reads_key _ _ _ _ has.0 i.3 c.in-Ok.ensures in
+    let key = c.requires.reads_key _ _ _ _ has.0 i.3 c.in_ok-key.ensures in
     let value = unit_read (λ _. ⊤) c.args.this.bytes.now c.in-Some._value.pos in
-    let keys : c.insert.new.self.keys ≡ insert_key g.K.Ord.cmp c.loop-key.set.keys c.in-Ok.done.0 = search rules in
-    let entries = ap key_entries keys ∙ inserted_key g.K.Ord.cmp c.loop-key.set.keys c.in-Ok.done.0 in
-    (n.more, n.rest_is, entry_read g.row.E g.A.ReadBack.reads (reads_as unit_spelling) g.A.Portable.shape (tuple no_shapes) g.A.Portable.knows (λ _. ⊤) c.args.this.bytes.now g.K.Ord.cmp c.args.this.pos c.args.this.bytes i.0 c.in-Some.key c.in-Some._value _ (key_entries c.loop-key.set.keys) (key_entries c.insert.new.self.keys) (c.in-Ok.done.0, tt {0}) i.2 n key.0 value entries, key.1)
+    let keys : c.insert.new.self.keys ≡ insert_key g.K.Ord.cmp c.loop-key.set.keys c.in_ok-key.field-0.0 = search rules in
+    let entries = ap key_entries keys ∙ inserted_key g.K.Ord.cmp c.loop-key.set.keys c.in_ok-key.field-0.0 in
+    (n.more, n.rest_is, entry_read g.row.E g.A.ReadBack.reads (reads_as unit_spelling) g.A.Portable.shape (tuple no_shapes) g.A.Portable.knows (λ _. ⊤) c.args.this.bytes.now g.K.Ord.cmp c.args.this.pos c.args.this.bytes i.0 c.in-Some.key c.in-Some._value _ (key_entries c.loop-key.set.keys) (key_entries c.insert.new.self.keys) (c.in_ok-key.field-0.0, tt {0}) i.2 n key.0 value entries, key.1)
 
 pub returns-clause-value : goal.returns-clause-value
 returns-clause-value g c =
