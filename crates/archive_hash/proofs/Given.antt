@@ -1,6 +1,7 @@
 -- What is written of entries that an iterator returns is written of their keys and values.
 use Rattle.std.proofs.Common.{◌≡◌, ◌∙◌, ℕ, List, [], ◌∷◌, ◌<◌, map, All, refl, ap, sym, subst, inl, inr, Option, Result, Err}
 use Rattle.std.specs.Iterator.{Yields, Drains}
+use Rattle.std.specs.List.{AllZip}
 use Rattle.std.specs.Map.Iter.{deref_pair}
 use Rattle.std.specs.Option.{option_map}
 use Rattle.std.proofs.lemmas.List.{length-map, get_or-map}
@@ -20,7 +21,7 @@ use Rattle.archive_forms_writing.specs.declared.collections.entry.EntryResolver.
 use Rattle.archive_forms_writing.specs.Entries.{entry_spelling}
 use Rattle.archive_forms_writing.specs.Steps.{IsElement}
 use Rattle.archive_hash_maps.specs.declared.map.resolving.HashTableResolver.{HashTableResolver}
-use Rattle.archive_hash_writing.specs.Claimed.{AreHashesOf, WritesClaimed, WritesHashed, WritesTable, written_spelling}
+use Rattle.archive_hash_writing.specs.Claimed.{WritesClaimed, WritesHashed, WritesTable, written_spelling}
 use Rattle.archive_hash.specs.Given.{WritesEntries, entry_of, pair_of, key_entry}
 use Rattle.archive_hash_writing.proofs.Seen.{hashed_seen}
 
@@ -59,7 +60,7 @@ element_taken P es x all el =
 -- ---- what is written
 
 -- the hashes of items that are seen as others
-hashes_seen : {A B : Type 0} (view : B → A) (other : B → ℕ → Type 0) (hashes : A → ℕ → Type 0) → ((x : B) (h : ℕ) → other x h → hashes (view x) h) → (xs : List B) (hs : List ℕ) → AreHashesOf other xs hs → AreHashesOf hashes (map view xs) hs
+pub hashes_seen : {A B : Type 0} (view : B → A) (other : B → ℕ → Type 0) (hashes : A → ℕ → Type 0) → ((x : B) (h : ℕ) → other x h → hashes (view x) h) → (xs : List B) (hs : List ℕ) → AllZip other xs hs → AllZip hashes (map view xs) hs
 hashes_seen view other hashes each [] [] all = all
 hashes_seen view other hashes each [] (h ∷ hs) all = absurd all
 hashes_seen view other hashes each (x ∷ xs) [] all = absurd all

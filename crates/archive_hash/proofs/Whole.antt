@@ -2,6 +2,7 @@
 use Rattle.std.proofs.Common.{◌≡◌, ◌∙◌, ℕ, List, [], ◌∷◌, ◌++◌, append-nil, length, map, All, refl, ap, ap₂, sym, subst, inl, inr, Result, Err, arith}
 use Rattle.std.specs.Iterator.{Yields, Drains}
 use Rattle.std.specs.Map.Iter.{TakesFirst, deref_pair}
+use Rattle.std.proofs.lemmas.Slice.Zip.{AllZip-map}
 use Rattle.archive_shape_layout.specs.Shape.{Shape}
 use Rattle.archive_shape_layout.specs.Writing.{WriterMembers}
 use Rattle.archive_shape_layout.specs.declared.error.Error.{Error}
@@ -13,7 +14,7 @@ use Rattle.archive_forms_laws.specs.Serializing.{of_data, Serializes}
 use Rattle.archive_forms_laws.specs.Taking.{GivesAs}
 use Rattle.archive_forms_writing.proofs.Laying.{stopped_before}
 use Rattle.archive_hash_maps.specs.declared.map.resolving.HashTableResolver.{HashTableResolver}
-use Rattle.archive_hash_writing.specs.Claimed.{AreHashesOf, WritesClaimed, WritesHashed, written_spelling}
+use Rattle.archive_hash_writing.specs.Claimed.{WritesClaimed, WritesHashed, written_spelling}
 use Rattle.archive_hash.specs.Given.{TakesGiven, WritesEntries}
 use Rattle.archive_hash.specs.Owned.{entries_spelling}
 
@@ -42,12 +43,6 @@ pub writes_more : {A B R Q W : Type 0} (came comes : List (A × B) → Type 0) (
 writes_more came comes hash load k v keys vals s claimed old new result more h =
     hashed_more came comes load (written_spelling load (tuple2 k v) (tuple2_spelling k keys v vals)) s (λ e n. n ≡ hash e.0) claimed old new result more h
 
-pub hashes_are : {A : Type 0} (hash : A → ℕ) (xs : List A) (hs : List ℕ) → AreHashesOf (λ x h. h ≡ hash x) xs hs → hs ≡ map hash xs
-hashes_are hash [] [] all = refl
-hashes_are hash [] (h ∷ hs) all = absurd all
-hashes_are hash (x ∷ xs) [] all = absurd all
-hashes_are hash (x ∷ xs) (h ∷ hs) all = ap₂ (λ i l. i ∷ l) all.0 (hashes_are hash xs hs all.1)
-
 module _ {A B R Q W : Type 0} (hash : A → ℕ) (k v : Shape) (keys : Spelling A R) (vals : Spelling B Q) (s : WriterMembers W) (es : List (A × B)) (old new : W) (result : Result HashTableResolver Error) where
   no_memory : result ≡ Err OutOfMemory → new ≡ old → Serializes (entries_spelling hash k v keys vals) s es old new result
   no_memory is same =
@@ -58,7 +53,7 @@ module _ {A B R Q W : Type 0} (hash : A → ℕ) (k v : Shape) (keys : Spelling 
   claimed_all : (xs : List (A × B)) → es ≡ xs → WritesClaimed (written_spelling (7, 8) (tuple2 k v) (tuple2_spelling k keys v vals)) s (λ e h. h ≡ hash e.0) (length es) xs old new result → Serializes (entries_spelling hash k v keys vals) s es old new result
   claimed_all xs all (inl w) =
       let Of : List ℕ → Type 0 = λ hs. Serializes (written_spelling (7, 8) (tuple2 k v) (tuple2_spelling k keys v vals) hs) s xs old new result in
-      let written : Serializes (entries_spelling hash k v keys vals) s xs old new result = subst Of (hashes_are (λ e. hash e.0) xs w.1 w.2) w.3 in
+      let written : Serializes (entries_spelling hash k v keys vals) s xs old new result = subst Of (AllZip-map (λ e. hash e.0) xs w.1 w.2) w.3 in
       subst (λ l. Serializes (entries_spelling hash k v keys vals) s l old new result) (sym all) written
   claimed_all xs all (inr w) = absurd (w.0 (sym (ap length all)))
 

@@ -49,14 +49,8 @@ pub fn deserialize_hash_map_each<
     let mut map = HashMap::new(alloc);
     let mut entries = ArchivedHashMap::iter(this);
     while let Some((key, value)) = entries.next() {
-        let key = match read_key(deserializer, key.pos) {
-            Ok(done) => done.0,
-            Err(e) => return Err(e),
-        };
-        let value = match read_value(deserializer, value.pos) {
-            Ok(done) => done.0,
-            Err(e) => return Err(e),
-        };
+        let key = read_key(deserializer, key.pos)?.0;
+        let value = read_value(deserializer, value.pos)?.0;
         if map.insert(key, value).is_err() {
             return Err(Error::OutOfMemory);
         }

@@ -70,16 +70,8 @@ fn serialize_by_step<
     ensures { SerializesEntry K.Archived.shape K.spelling A.Archived.shape (A.spelling with.now)
         S.Writer entry.now serializer.old serializer.new result }
 {
-    match step.serialize_entry(with, entry.key, entry.value, serializer) {
-        Ok(done) => Ok((
-            EntryResolver {
-                key: done.0,
-                value: done.1,
-            },
-            PhantomData,
-        )),
-        Err(e) => Err(e),
-    }
+    let (key, value) = step.serialize_entry(with, entry.key, entry.value, serializer)?;
+    Ok((EntryResolver { key, value }, PhantomData))
 }
 
 /// Writes the table of the entries of a map that an iterator returns, by the hashes of their keys. Their data is

@@ -49,10 +49,7 @@ pub fn deserialize_hash_set_each<
     };
     let mut entries = ArchivedHashMap::iter(map);
     while let Some((key, _value)) = entries.next() {
-        let key = match read_key(deserializer, key.pos) {
-            Ok(done) => done.0,
-            Err(e) => return Err(e),
-        };
+        let key = read_key(deserializer, key.pos)?.0;
         if set.insert(key).is_err() {
             return Err(Error::OutOfMemory);
         }

@@ -5,7 +5,6 @@ pub mod EachBucket
 pub mod Filled
 pub mod Filling
 pub mod FirstFitted
-pub mod Hashed
 pub mod IndexAgreeing
 pub mod IndexKept
 pub mod IndexMaps

@@ -6,6 +6,7 @@ use Rattle.std.specs.Prelude.{◌≡◌, ℕ, ◌+◌, ◌*◌, ◌^◌, ◌<◌
 use Rattle.std.specs.Fn.{FnReturnsAt}
 use Rattle.std.specs.Global.{Global}
 use Rattle.std.specs.Iterator.{Drains}
+use Rattle.std.specs.List.{AllZip}
 use Rattle.archive_shape_layout.specs.Shape.{Shape, size_of}
 use Rattle.archive_shape_layout.specs.Writing.{WriterMembers}
 use Rattle.archive_shape_layout.specs.declared.error.Error.{Error}
@@ -17,7 +18,7 @@ use Rattle.archive_forms_laws.specs.State.{State}
 use Rattle.archive_forms_writing.specs.Calls.Items.{SerializesAll}
 use Rattle.archive_forms_writing.specs.Steps.{IsElement}
 use Rattle.archive_hash_maps.specs.declared.map.resolving.HashTableResolver.{HashTableResolver}
-use Rattle.archive_hash_writing.specs.Claimed.{AreHashesOf, WritesTable}
+use Rattle.archive_hash_writing.specs.Claimed.{WritesTable}
 use Rattle.archive_hash_writing.specs.Laying.{LaysBuckets, LaysRegion}
 use Rattle.archive_hash_writing.specs.Standing.{standing}
 use Rattle.archive_hash_writing.specs.Tables.{state_after_items}
@@ -28,7 +29,7 @@ use Rattle.archive_hash_writing.specs.declared.fitting.Fitted.{Fitted}
 -- the hash of each item
 abbrev pub HashesItems : {F A : Type 0} → Shared F (Bor A × Unit {0}) ℕ → F → List A → Result (Vec ℕ Global) Error → Type 0
 HashesItems call hash items result =
-    MatchResult result (λ hashes. AreHashesOf (λ x h. FnReturnsAt call hash x h) items hashes.items) (λ e. e ≡ OutOfMemory)
+    MatchResult result (λ hashes. AllZip (λ x h. FnReturnsAt call hash x h) items hashes.items) (λ e. e ≡ OutOfMemory)
 
 -- the first fit of each hash among so many places, and the controls
 abbrev pub FitsHashes : (capacity : ℕ) → (hashes : List ℕ) → Result Fitted Error → Type 0

@@ -1,5 +1,6 @@
 -- The contract of a call that writes the table of the items that an iterator returns, whose number the caller claims.
-use Rattle.std.specs.Prelude.{◌≡◌, ℕ, ◌⊎◌, List, [], ◌∷◌, length, Result, Err, ⊤}
+use Rattle.std.specs.Prelude.{◌≡◌, ℕ, ◌⊎◌, List, length, Result, Err}
+use Rattle.std.specs.List.{AllZip}
 use Rattle.archive_shape_layout.specs.Shape.{Shape}
 use Rattle.archive_shape_layout.specs.Writing.{WriterMembers}
 use Rattle.archive_shape_layout.specs.declared.error.Error.{Error}
@@ -11,13 +12,6 @@ use Rattle.archive_forms_writing.specs.Claims.{RefusesMemory}
 use Rattle.archive_hash_probing.specs.Loads.{IsLoadFactor}
 use Rattle.archive_hash_maps.specs.declared.map.resolving.HashTableResolver.{HashTableResolver}
 use Rattle.archive_hash_writing.specs.Tables.{hashed_spelling}
-
--- these are the hashes of the items, in order
-abbrev pub AreHashesOf : {A : Type 0} → (A → ℕ → Type 0) → List A → List ℕ → Type 0
-AreHashesOf hashes [] [] = ⊤
-AreHashesOf hashes (x ∷ xs) (h ∷ hs) = hashes x h × AreHashesOf hashes xs hs
-AreHashesOf hashes [] (h ∷ hs) = ⊥
-AreHashesOf hashes (x ∷ xs) [] = ⊥
 
 -- the resolver of a table is the position of its controls, if it has places
 abbrev pub written_spelling : {A R : Type 0} → ℕ × ℕ → Shape → Spelling A R → List ℕ → Spelling (List A) HashTableResolver
@@ -31,7 +25,7 @@ RefusesLoadFactor load old new result = (IsLoadFactor load → ⊥) × (result �
 -- spelling of these hashes has it; otherwise the error has both numbers, and nothing is written.
 abbrev pub WritesClaimed : {A Q W : Type 0} → (List ℕ → Spelling (List A) Q) → WriterMembers W → (A → ℕ → Type 0) → ℕ → List A → W → W → Result Q Error → Type 0
 WritesClaimed spelled members hashes claimed xs old new result =
-    ((length xs ≡ claimed) × (hs : List ℕ) × AreHashesOf hashes xs hs × Serializes (spelled hs) members xs old new result)
+    ((length xs ≡ claimed) × (hs : List ℕ) × AllZip hashes xs hs × Serializes (spelled hs) members xs old new result)
     ⊎ ((length xs ≡ claimed → ⊥) × (result ≡ Err (IteratorLengthMismatch claimed (length xs))) × (new ≡ old))
 
 -- of the items for which `comes` holds

@@ -27,13 +27,9 @@ fn make_room<W: Writer>(
     if buffer.len() - filled >= size {
         return Ok(filled);
     }
-    match writer.write(&buffer[..filled]) {
-        Ok(()) => {
-            buffer.fill(0);
-            Ok(0)
-        }
-        Err(e) => Err(e),
-    }
+    writer.write(&buffer[..filled])?;
+    buffer.fill(0);
+    Ok(0)
 }
 
 /// Writes the own bytes of an item, whose data is already written, at `start` of a buffer. The buffer is zero there,
@@ -74,16 +70,11 @@ fn write_through<'a, T, A: ArchiveWith<T>, W: Writer>(
     let mut left = kept.len();
     let mut filled = 0;
     for p in (0..table.len()).rev() {
-        filled = match make_room(writer, buffer, filled, size) {
-            Ok(filled) => filled,
-            Err(e) => return Err(e),
-        };
+        filled = make_room(writer, buffer, filled, size)?;
         if let Some(item) = table[p] {
             left -= 1;
             let pos = writer.pos() + filled;
-            if let Err(e) = resolve_bucket(with, item, kept[left], filled, pos, buffer) {
-                return Err(e);
-            }
+            resolve_bucket(with, item, kept[left], filled, pos, buffer)?;
         }
         filled += size;
     }

@@ -35,10 +35,7 @@ pub(crate) fn serialize_present_each<
     };
     for place in table {
         if let Some(item) = *place {
-            let resolver = match step(item, serializer) {
-                Ok(done) => done.0,
-                Err(e) => return Err(e),
-            };
+            let resolver = step(item, serializer)?.0;
             if all.push(resolver).is_err() {
                 return Err(Error::OutOfMemory);
             }

@@ -40,18 +40,11 @@ pub(crate) fn write_region<'a, T, A: ArchiveWith<T>, S: Writer + Allocator>(
     ensures { WritesRegion (A.spelling with.now) table.now kept.now A.Archived.shape S.Writer controls.now
         serializer.old serializer.new result }
 {
-    let from = match align(serializer, A::Archived::ALIGN) {
-        Ok(from) => from,
-        Err(e) => return Err(e),
-    };
+    let from = align(serializer, A::Archived::ALIGN)?;
     let Some(to) = controls_position::<A::Archived>(from, table.len(), controls.len()) else {
         return Err(Error::PositionTooLarge);
     };
-    if let Err(e) = write_buckets(with, table, kept, serializer) {
-        return Err(e);
-    }
-    match serializer.write(controls) {
-        Ok(()) => Ok(to),
-        Err(e) => Err(e),
-    }
+    write_buckets(with, table, kept, serializer)?;
+    serializer.write(controls)?;
+    Ok(to)
 }

@@ -40,30 +40,16 @@ pub fn serialize_hashed<
     ensures { Serializes (written_spelling load_factor A.Archived.shape (A.spelling with.now) hashes.now) S.Writer
         items.now serializer.old serializer.new result }
 {
-    let capacity = match capacity_for_len(items.len(), load_factor) {
-        Ok(capacity) => capacity,
-        Err(e) => return Err(e),
-    };
+    let capacity = capacity_for_len(items.len(), load_factor)?;
     if capacity == 0 {
         return Ok(HashTableResolver { pos: None });
     }
     let alloc = serializer.memory();
-    let fitted = match fit::<G>(alloc, capacity, hashes) {
-        Ok(fitted) => fitted,
-        Err(e) => return Err(e),
-    };
-    let table = match place_items(alloc, capacity, items, fitted.places.as_slice()) {
-        Ok(table) => table,
-        Err(e) => return Err(e),
-    };
+    let fitted = fit::<G>(alloc, capacity, hashes)?;
+    let table = place_items(alloc, capacity, items, fitted.places.as_slice())?;
     let at_places = table.as_slice();
-    let kept = match serialize_present_each(with, at_places, items.len(), serializer, step) {
-        Ok(kept) => kept,
-        Err(e) => return Err(e),
-    };
+    let kept = serialize_present_each(with, at_places, items.len(), serializer, step)?;
     let controls = fitted.controls.as_slice();
-    match write_region(with, at_places, kept.as_slice(), controls, serializer) {
-        Ok(to) => Ok(HashTableResolver { pos: Some(to) }),
-        Err(e) => Err(e),
-    }
+    let to = write_region(with, at_places, kept.as_slice(), controls, serializer)?;
+    Ok(HashTableResolver { pos: Some(to) })
 }

@@ -1,6 +1,7 @@
 -- The table of the numbers of entries, and the entries after it, as they are written.
-use Rattle.std.proofs.Common.{◌≡◌, ◌∙◌, ℕ, ◌+◌, ◌^◌, ◌≤◌, List, [], ◌∷◌, ◌++◌, length, map, refl, sym, ap, ap₂, subst, arith, inl, inr, ◌⊎◌, Some, None, Ok, add-zero}
+use Rattle.std.proofs.Common.{◌≡◌, ◌∙◌, ℕ, ◌+◌, ◌^◌, ◌≤◌, List, [], ◌∷◌, ◌++◌, length, map, refl, sym, ap, subst, arith, inl, inr, ◌⊎◌, Some, None, Ok, add-zero}
 use Rattle.std.specs.Prelude.{Result}
+use Rattle.std.specs.List.{AllZip, each_same}
 use Rattle.std.proofs.lemmas.List.FromFn.{length-range_with_len}
 use Rattle.archive_shape_layout.specs.Shape.{Shape}
 use Rattle.archive_shape_canonical.specs.FirstFit.{capacity_for}
@@ -16,10 +17,11 @@ use Rattle.archive_forms_laws.specs.Serializing.{IsAt, Serializes, of_data}
 use Rattle.archive_forms_writing.proofs.Laying.{Wrote, Stops, wrote_both, stopped_after, stopped_first, stopped_before}
 use Rattle.archive_hash_probing.specs.Loads.{IsLoadFactor}
 use Rattle.archive_hash_maps.specs.declared.map.resolving.HashTableResolver.{HashTableResolver}
-use Rattle.archive_hash_writing.specs.Claimed.{AreHashesOf, written_spelling}
+use Rattle.archive_hash_writing.specs.Claimed.{written_spelling}
 use Rattle.archive_hash_writing.proofs.SpellingFitting.{length-table}
 use Rattle.archive_hash_writing.specs.IndexMaps.{numbers}
 use Rattle.archive_hash_writing.specs.declared.index.resolver.IndexMapResolver.{IndexMapResolver}
+use Rattle.archive_hash.proofs.Given.{hashes_seen}
 use Rattle.archive_hash_writing.specs.IndexResolvers.{written_map}
 
 module _ {A R W : Type 0} (load : ℕ × ℕ) (sh : Shape) (w : Spelling A R) (hashes : List ℕ) (s : WriterMembers W) where
@@ -102,8 +104,5 @@ module _ {A R W : Type 0} (load : ℕ × ℕ) (sh : Shape) (w : Spelling A R) (h
 -- ---- hashes that follow from items
 
 -- what calls return for the items are these hashes
-pub hashes_computed : {X : Type 0} (other : X → ℕ → Type 0) (hash : X → ℕ) → ((x : X) (h : ℕ) → other x h → h ≡ hash x) → (xs : List X) (hs : List ℕ) → AreHashesOf other xs hs → hs ≡ map hash xs
-hashes_computed other hash each [] [] all = refl
-hashes_computed other hash each [] (h ∷ hs) all = absurd all
-hashes_computed other hash each (x ∷ xs) [] all = absurd all
-hashes_computed other hash each (x ∷ xs) (h ∷ hs) all = ap₂ (λ n l. n ∷ l) (each x h all.0) (hashes_computed other hash each xs hs all.1)
+pub hashes_computed : {X : Type 0} (other : X → ℕ → Type 0) (hash : X → ℕ) → ((x : X) (h : ℕ) → other x h → h ≡ hash x) → (xs : List X) (hs : List ℕ) → AllZip other xs hs → hs ≡ map hash xs
+hashes_computed other hash each xs hs all = each_same (map hash xs) hs (hashes_seen hash other (λ x h. h ≡ x) each xs hs all)

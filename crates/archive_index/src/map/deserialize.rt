@@ -53,14 +53,8 @@ fn deserialize_pair<
     ensures value { DeserializesPair A.ReadBack B.ReadBack bytes.now pos result }
     ensures keeps { IfOk result (λ _. D.is_of deserializer.new bytes.now) }
 {
-    let key = match read_key(deserializer, pos) {
-        Ok(done) => done.0,
-        Err(e) => return Err(e),
-    };
-    let value = match read_value(deserializer, value_position::<A, B>(bytes, pos)) {
-        Ok(done) => done.0,
-        Err(e) => return Err(e),
-    };
+    let key = read_key(deserializer, pos)?.0;
+    let value = read_value(deserializer, value_position::<A, B>(bytes, pos))?.0;
     Ok(((key, value), PhantomData))
 }
 

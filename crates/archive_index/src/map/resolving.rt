@@ -33,10 +33,7 @@ impl<K: Portable, V: Portable, H> ArchivedIndexMap<K, V, H> {
             ..
         } = out;
         let table = Place::<ArchivedHashTable<ArchivedU32>>::within(&mut *out, start, pos);
-        match ArchivedHashTable::resolve_from_len(len, load_factor, resolver.table, table) {
-            Ok(()) => {}
-            Err(e) => return Err(e),
-        }
+        ArchivedHashTable::resolve_from_len(len, load_factor, resolver.table, table)?;
         let link = Place::within(out, start + 12, pos.saturating_add(12));
         emplace_link(resolver.entries, link)
     }

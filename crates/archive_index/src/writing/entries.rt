@@ -41,10 +41,8 @@ fn serialize_pair<
     ensures { SerializesPair K.Archived.shape K.spelling A.Archived.shape (A.spelling with.now)
         S.Writer pair.now serializer.old serializer.new result }
 {
-    match step.serialize_entry(with, &pair.0, &pair.1, serializer) {
-        Ok(done) => Ok((done, PhantomData)),
-        Err(e) => Err(e),
-    }
+    let done = step.serialize_entry(with, &pair.0, &pair.1, serializer)?;
+    Ok((done, PhantomData))
 }
 
 /// Writes the index map of pairs, whose data `step` writes. The values are archived by `with`.
@@ -61,16 +59,13 @@ fn serialize_pairs_each<
     ensures { SerializesPairs K.Hash K.Archived.shape A.Archived.shape K.spelling (A.spelling with.now)
         S.Writer entries.now serializer.old serializer.new result }
 {
-    let hashes = match hash_items(
+    let hashes = hash_items(
         serializer.memory(),
         entries,
         |pair: &(K, V)| -> u64
             ensures { result ≡ input_hash (K.hash_input pair.now.0) }
         { hash_key(&pair.0) },
-    ) {
-        Ok(hashes) => hashes,
-        Err(e) => return Err(e),
-    };
+    )?;
     let hashes = hashes.as_slice();
     let by = PairWith { values: with };
     serialize_hashed_map::<Group, (K, V), PairWith<'_, A>, S, _>(

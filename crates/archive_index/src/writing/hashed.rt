@@ -46,15 +46,10 @@ pub(crate) fn serialize_hashed_map<
             entries: None,
         });
     }
-    if let Err(e) = capacity_for_len(len, load_factor) {
-        return Err(e);
-    }
-    let numbers = match numbers_below(serializer.memory(), len) {
-        Ok(numbers) => numbers,
-        Err(e) => return Err(e),
-    };
+    capacity_for_len(len, load_factor)?;
+    let numbers = numbers_below(serializer.memory(), len)?;
     let numbers = numbers.as_slice();
-    let table = match serialize_hashed::<G, u32, ByArchive, S, _>(
+    let table = serialize_hashed::<G, u32, ByArchive, S, _>(
         &ByArchive,
         numbers,
         hashes,
@@ -65,15 +60,10 @@ pub(crate) fn serialize_hashed_map<
             requires state { HasState S.pos S.known s.old }
             ensures { SerializesBy (λ q. q.0) number_spelling S.Writer number.now s.old s.new result }
         { serialize_element(number, s) },
-    ) {
-        Ok(table) => table,
-        Err(e) => return Err(e),
-    };
-    match serialize_slice_with_each(with, entries, serializer, step) {
-        Ok(pos) => Ok(IndexMapResolver {
-            table,
-            entries: Some(pos),
-        }),
-        Err(e) => Err(e),
-    }
+    )?;
+    let pos = serialize_slice_with_each(with, entries, serializer, step)?;
+    Ok(IndexMapResolver {
+        table,
+        entries: Some(pos),
+    })
 }

@@ -54,10 +54,7 @@ pub fn serialize_from_iter_scan_each<
     if load_factor.0 == 0 || load_factor.0 > load_factor.1 {
         return Err(Error::InvalidLoadFactor);
     }
-    let items = match collect_items(serializer.memory(), iter) {
-        Ok(items) => items,
-        Err(e) => return Err(e),
-    };
+    let items = collect_items(serializer.memory(), iter)?;
     let actual = items.len();
     if actual != len {
         return Err(Error::IteratorLengthMismatch {
@@ -66,10 +63,7 @@ pub fn serialize_from_iter_scan_each<
         });
     }
     let items = items.as_slice();
-    let hashes = match hash_items(serializer.memory(), items, hash) {
-        Ok(hashes) => hashes,
-        Err(e) => return Err(e),
-    };
+    let hashes = hash_items(serializer.memory(), items, hash)?;
     let hashes = hashes.as_slice();
     serialize_hashed_map::<G, T, ByArchive, S, F>(
         &ByArchive,

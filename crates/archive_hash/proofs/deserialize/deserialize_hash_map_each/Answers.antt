@@ -16,38 +16,40 @@ read_key-requires g c =
     let has = next_has g.A.ReadBack.reads g.B.ReadBack.reads g.A.Portable.shape g.B.Portable.shape g.A.Portable.knows g.B.Portable.knows c.args.this.bytes.now g.K.PartialEq.eq c.args.this.pos c.args.this.bytes i.0 c.in-Some.key c.in-Some.value _ c.loop-key.map.entries i.2 n in
     c.requires.takes_key _ _ has.0.held.own_within has.0 i.3
 
-pub returns-in-Err-clause-value : goal.returns-in-Err-clause-value
-returns-in-Err-clause-value g c =
+pub returns-in_err-key-clause-value : goal.returns-in_err-key-clause-value
+returns-in_err-key-clause-value g c =
     let i = c.loop-key.invariant in
     let n = next_position g.A.Portable.shape g.B.Portable.shape c.args.this.bytes i.0 c.in-Some.key c.in-Some.value c.loop-key.entries _ i.1 c.in-Some.ensures.steps in
     let has = next_has g.A.ReadBack.reads g.B.ReadBack.reads g.A.Portable.shape g.B.Portable.shape g.A.Portable.knows g.B.Portable.knows c.args.this.bytes.now g.K.PartialEq.eq c.args.this.pos c.args.this.bytes i.0 c.in-Some.key c.in-Some.value _ c.loop-key.map.entries i.2 n in
-    (c.requires.reads_key _ _ _ _ has.0 i.3 c.in-Err.ensures).0
+    let is = (c.requires.reads_key _ _ _ _ has.0 i.3 c.in_err-key.ensures).0 in
+    search rules
 
 pub read_value-requires : goal.read_value-requires
 read_value-requires g c =
     let i = c.loop-key.invariant in
     let n = next_position g.A.Portable.shape g.B.Portable.shape c.args.this.bytes i.0 c.in-Some.key c.in-Some.value c.loop-key.entries _ i.1 c.in-Some.ensures.steps in
     let has = next_has g.A.ReadBack.reads g.B.ReadBack.reads g.A.Portable.shape g.B.Portable.shape g.A.Portable.knows g.B.Portable.knows c.args.this.bytes.now g.K.PartialEq.eq c.args.this.pos c.args.this.bytes i.0 c.in-Some.key c.in-Some.value _ c.loop-key.map.entries i.2 n in
-    let key = c.requires.reads_key _ _ _ _ has.0 i.3 c.in-Ok.ensures in
+    let key = c.requires.reads_key _ _ _ _ has.0 i.3 c.in_ok-key.ensures in
     c.requires.takes_value _ _ has.1.held.own_within has.1 key.1
 
-pub returns-in-Err-read_value-clause-value : goal.returns-in-Err-read_value-clause-value
-returns-in-Err-read_value-clause-value g c =
+pub returns-in_err-value-clause-value : goal.returns-in_err-value-clause-value
+returns-in_err-value-clause-value g c =
     let i = c.loop-key.invariant in
     let n = next_position g.A.Portable.shape g.B.Portable.shape c.args.this.bytes i.0 c.in-Some.key c.in-Some.value c.loop-key.entries _ i.1 c.in-Some.ensures.steps in
     let has = next_has g.A.ReadBack.reads g.B.ReadBack.reads g.A.Portable.shape g.B.Portable.shape g.A.Portable.knows g.B.Portable.knows c.args.this.bytes.now g.K.PartialEq.eq c.args.this.pos c.args.this.bytes i.0 c.in-Some.key c.in-Some.value _ c.loop-key.map.entries i.2 n in
-    let key = c.requires.reads_key _ _ _ _ has.0 i.3 c.in-Ok.ensures in
-    (c.requires.reads_value _ _ _ _ has.1 key.1 c.in-Err-read_value.ensures).0
+    let key = c.requires.reads_key _ _ _ _ has.0 i.3 c.in_ok-key.ensures in
+    let is = (c.requires.reads_value _ _ _ _ has.1 key.1 c.in_err-value.ensures).0 in
+    search rules
 
 pub loop-key-preserved : goal.loop-key-preserved
 loop-key-preserved g c =
     let i = c.loop-key.invariant in
     let n = next_position g.A.Portable.shape g.B.Portable.shape c.args.this.bytes i.0 c.in-Some.key c.in-Some.value c.loop-key.entries _ i.1 c.in-Some.ensures.steps in
     let has = next_has g.A.ReadBack.reads g.B.ReadBack.reads g.A.Portable.shape g.B.Portable.shape g.A.Portable.knows g.B.Portable.knows c.args.this.bytes.now g.K.PartialEq.eq c.args.this.pos c.args.this.bytes i.0 c.in-Some.key c.in-Some.value _ c.loop-key.map.entries i.2 n in
-    let key = c.requires.reads_key _ _ _ _ has.0 i.3 c.in-Ok.ensures in
-    let value = c.requires.reads_value _ _ _ _ has.1 key.1 c.in-Ok-read_value.ensures in
-    let put = map_put g.K.PartialEq.eq c.loop-key.map c.insert.new.self (c.in-Ok.done.0, c.in-Ok-read_value.done.0) c.insert.result (search rules) c.insert.ensures.old c.insert.ensures.entries c.insert.ensures.updates in
-    (n.more, n.rest_is, next_read g.A.ReadBack.reads g.B.ReadBack.reads g.A.Portable.shape g.B.Portable.shape g.A.Portable.knows g.B.Portable.knows c.args.this.bytes.now g.met.K.Eq.laws c.args.this.pos c.args.this.bytes i.0 c.in-Some.key c.in-Some.value _ c.loop-key.map.entries c.insert.new.self.entries (c.in-Ok.done.0, c.in-Ok-read_value.done.0) put.old i.2 n key.0 value.0 put.is put.put put.leads c.insert.ensures.unique, value.1)
+    let key = c.requires.reads_key _ _ _ _ has.0 i.3 c.in_ok-key.ensures in
+    let value = c.requires.reads_value _ _ _ _ has.1 key.1 c.in_ok-value.ensures in
+    let put = map_put g.K.PartialEq.eq c.loop-key.map c.insert.new.self (c.in_ok-key.field-0.0, c.in_ok-value.field-0.0) c.insert.result (search rules) c.insert.ensures.old c.insert.ensures.entries c.insert.ensures.updates in
+    (n.more, n.rest_is, next_read g.A.ReadBack.reads g.B.ReadBack.reads g.A.Portable.shape g.B.Portable.shape g.A.Portable.knows g.B.Portable.knows c.args.this.bytes.now g.met.K.Eq.laws c.args.this.pos c.args.this.bytes i.0 c.in-Some.key c.in-Some.value _ c.loop-key.map.entries c.insert.new.self.entries (c.in_ok-key.field-0.0, c.in_ok-value.field-0.0) put.old i.2 n key.0 value.0 put.is put.put put.leads c.insert.ensures.unique, value.1)
 
 pub returns-clause-value : goal.returns-clause-value
 returns-clause-value g c =

@@ -25,23 +25,24 @@ read_key-requires g c =
     let has = next_has g.A.ReadBack.reads (reads_as unit_spelling) g.A.Portable.shape (tuple no_shapes) g.A.Portable.knows (λ _. ⊤) c.args.this.bytes.now g.K.PartialEq.eq c.args.this.pos c.args.this.bytes i.0 c.in-Some.key c.in-Some._value _ (key_entries c.loop-key.set.keys) i.2 n in
     c.requires.takes_key _ _ has.0.held.own_within has.0 i.3
 
-pub returns-in-Err-clause-value : goal.returns-in-Err-clause-value
-returns-in-Err-clause-value g c =
+pub returns-in_err-key-clause-value : goal.returns-in_err-key-clause-value
+returns-in_err-key-clause-value g c =
     let i = c.loop-key.invariant in
     let n = next_position g.A.Portable.shape (tuple no_shapes) c.args.this.bytes i.0 c.in-Some.key c.in-Some._value c.loop-key.entries _ i.1 c.in-Some.ensures.steps in
     let has = next_has g.A.ReadBack.reads (reads_as unit_spelling) g.A.Portable.shape (tuple no_shapes) g.A.Portable.knows (λ _. ⊤) c.args.this.bytes.now g.K.PartialEq.eq c.args.this.pos c.args.this.bytes i.0 c.in-Some.key c.in-Some._value _ (key_entries c.loop-key.set.keys) i.2 n in
-    (c.requires.reads_key _ _ _ _ has.0 i.3 c.in-Err.ensures).0
+    let is = (c.requires.reads_key _ _ _ _ has.0 i.3 c.in_err-key.ensures).0 in
+    search rules
 
 pub loop-key-preserved : goal.loop-key-preserved
 loop-key-preserved g c =
     let i = c.loop-key.invariant in
     let n = next_position g.A.Portable.shape (tuple no_shapes) c.args.this.bytes i.0 c.in-Some.key c.in-Some._value c.loop-key.entries _ i.1 c.in-Some.ensures.steps in
     let has = next_has g.A.ReadBack.reads (reads_as unit_spelling) g.A.Portable.shape (tuple no_shapes) g.A.Portable.knows (λ _. ⊤) c.args.this.bytes.now g.K.PartialEq.eq c.args.this.pos c.args.this.bytes i.0 c.in-Some.key c.in-Some._value _ (key_entries c.loop-key.set.keys) i.2 n in
-    let key = c.requires.reads_key _ _ _ _ has.0 i.3 c.in-Ok.ensures in
+    let key = c.requires.reads_key _ _ _ _ has.0 i.3 c.in_ok-key.ensures in
     let value = unit_read (λ _. ⊤) c.args.this.bytes.now c.in-Some._value.pos in
-    let put = key_put g.K.PartialEq.eq c.loop-key.set c.insert.new.self c.in-Ok.done.0 c.insert.result (search rules) c.insert.ensures.added c.insert.ensures.keys c.insert.ensures.updates in
+    let put = key_put g.K.PartialEq.eq c.loop-key.set c.insert.new.self c.in_ok-key.field-0.0 c.insert.result (search rules) c.insert.ensures.added c.insert.ensures.keys c.insert.ensures.updates in
     let once = subst (IsDistinct g.K.PartialEq.eq) (sym (keys_back c.insert.new.self.keys)) c.insert.ensures.unique in
-    (n.more, n.rest_is, next_read g.A.ReadBack.reads (reads_as unit_spelling) g.A.Portable.shape (tuple no_shapes) g.A.Portable.knows (λ _. ⊤) c.args.this.bytes.now g.met.K.Eq.laws c.args.this.pos c.args.this.bytes i.0 c.in-Some.key c.in-Some._value _ (key_entries c.loop-key.set.keys) (key_entries c.insert.new.self.keys) (c.in-Ok.done.0, tt {0}) put.old i.2 n key.0 value put.is put.put put.leads once, key.1)
+    (n.more, n.rest_is, next_read g.A.ReadBack.reads (reads_as unit_spelling) g.A.Portable.shape (tuple no_shapes) g.A.Portable.knows (λ _. ⊤) c.args.this.bytes.now g.met.K.Eq.laws c.args.this.pos c.args.this.bytes i.0 c.in-Some.key c.in-Some._value _ (key_entries c.loop-key.set.keys) (key_entries c.insert.new.self.keys) (c.in_ok-key.field-0.0, tt {0}) put.old i.2 n key.0 value put.is put.put put.leads once, key.1)
 
 pub returns-clause-value : goal.returns-clause-value
 returns-clause-value g c =

@@ -1,4 +1,4 @@
-use Rattle.std.proofs.Common.{◌≡◌, ◌+◌, arith, refl, ap, List, [], ◌∷◌, ◌++◌, Bool, true, false, if◌then◌else◌, None, map, inl}
+use Rattle.std.proofs.Common.{rules, Err, ◌≡◌, ◌+◌, arith, refl, ap, List, [], ◌∷◌, ◌++◌, Bool, true, false, if◌then◌else◌, None, map, inl}
 use Rattle.archive_shape_layout.specs.Writing.{WriterMembers}
 use Rattle.archive_shape_canonical.specs.FirstFit.{present}
 use Rattle.archive_forms_laws.specs.Serializing.{of_data}
@@ -7,7 +7,7 @@ use Rattle.archive_forms_writing.proofs.Laying.{stopped_before}
 use Rattle.archive_hash_writing.specs.Standing.{standing}
 use Rattle.archive_hash_writing.proofs.Present.{read_as}
 use Rattle.archive_hash_writing.proofs.Presented.{presented_none, presented_as, presented_passed, next_item, presented_next, presented_stopped, presented_memory, presented_all}
-use Rattle.archive_hash_writing.proofs.data.serialize_present_each.Goals.{in-Some+in-Ok-step+else-is_err, in_default-place}
+use Rattle.archive_hash_writing.proofs.data.serialize_present_each.Goals.{in-Some+in_ok-resolver+else-is_err, in_default-place}
 use Rattle.archive_hash_writing.proofs.data.serialize_present_each.Goals as goal
 
 pushed : {A : Type 0} (b : Bool) (x y z : List A) → x ≡ (if b then y else z) → b ≡ true → x ≡ y
@@ -32,13 +32,16 @@ step-requires g c =
     let item = next_item _ _ _ _ c.loop-place.place-index _ _ _ c.loop-place-test.true is h in
     c.requires.takes _ _ (_, item.0, item.1) (omega (arith, r.wrote.is_quiet, c.requires.room)) (record { state = r.left; is_at = r.is_at })
 
-pub returns-in-Err : goal.returns-in-Err
-returns-in-Err g c = λ st at.
+pub returns-in_err-resolver : goal.returns-in_err-resolver
+returns-in_err-resolver g c =
+    let failed : c.from_residual.result ≡ Err c.in_err-resolver.field-0.0 = search rules in
+    rw failed
+    (λ st at.
     let is = read_as c.args.table.now c.loop-place.place-index _ _ c.place-item.is c.in-Some.is in
     let h = c.loop-place.invariant.presented in
     let r = h.reached st at in
     presented_stopped _ _ _ _ c.loop-place.place-index _ _ _ c.loop-place-test.true is h _ _ st at
-    (λ from there. c.requires.writes _ _ _ _ (omega (arith, r.wrote.is_quiet, c.requires.room)) (record { state = from; is_at = there }) c.in-Err.ensures from there)
+    (λ from there. c.requires.writes _ _ _ _ (omega (arith, r.wrote.is_quiet, c.requires.room)) (record { state = from; is_at = there }) c.in_err-resolver.ensures from there))
 
 pub returns-then-is_err : goal.returns-then-is_err
 returns-then-is_err g c = λ st at.
@@ -46,8 +49,8 @@ returns-then-is_err g c = λ st at.
     let is = read_as c.args.table.now c.loop-place.place-index _ _ c.place-item.is c.in-Some.is in
     let h = c.loop-place.invariant.presented in
     let r = h.reached st at in
-    let next = presented_next (g.A.ArchiveWith.spelling c.args.with.now) s c.args.table.now c.args.serializer.now c.loop-place.place-index _ _ _ c.loop-place-test.true is h c.step.new.arg3 c.in-Ok-step.done.0 _ refl
-    (λ from there. c.requires.writes _ _ _ _ (omega (arith, r.wrote.is_quiet, c.requires.room)) (record { state = from; is_at = there }) c.in-Ok-step.ensures from there) in
+    let next = presented_next (g.A.ArchiveWith.spelling c.args.with.now) s c.args.table.now c.args.serializer.now c.loop-place.place-index _ _ _ c.loop-place-test.true is h c.step.new.arg3 c.in_ok-resolver.field-0.0 _ refl
+    (λ from there. c.requires.writes _ _ _ _ (omega (arith, r.wrote.is_quiet, c.requires.room)) (record { state = from; is_at = there }) c.in_ok-resolver.ensures from there) in
     presented_memory _ _ _ _ (c.loop-place.place-index + 1) _ _ next st at
 
 pub loop-place-preserved : goal.loop-place-preserved
@@ -58,11 +61,11 @@ loop-place-preserved g c =
     let h = c.loop-place.invariant.presented in
     let r = h.reached c.requires.state.state c.requires.state.is_at in
     elim c.match-place.branch [
-      | in-Some+in-Ok-step+else-is_err w ↦
+      | in-Some+in_ok-resolver+else-is_err w ↦
           (let is = read_as table i _ _ c.place-item.is w.in-Some.is in
-          let items : w.push.new.self.items ≡ c.loop-place.all.items ++ (w.in-Ok-step.done.0 ∷ []) = pushed _ _ _ _ w.push.ensures.items w.if-is_err.ensures.negation in
-          let next = presented_next (g.A.ArchiveWith.spelling c.args.with.now) s table c.args.serializer.now i _ _ _ c.loop-place-test.true is h w.step.new.arg3 w.in-Ok-step.done.0 _ items
-          (λ from there. c.requires.writes _ _ _ _ (omega (arith, r.wrote.is_quiet, c.requires.room)) (record { state = from; is_at = there }) w.in-Ok-step.ensures from there) in
+          let items : w.push.new.self.items ≡ c.loop-place.all.items ++ (w.in_ok-resolver.field-0.0 ∷ []) = pushed _ _ _ _ w.push.ensures.items w.if-is_err.ensures.negation in
+          let next = presented_next (g.A.ArchiveWith.spelling c.args.with.now) s table c.args.serializer.now i _ _ _ c.loop-place-test.true is h w.step.new.arg3 w.in_ok-resolver.field-0.0 _ items
+          (λ from there. c.requires.writes _ _ _ _ (omega (arith, r.wrote.is_quiet, c.requires.room)) (record { state = from; is_at = there }) w.in_ok-resolver.ensures from there) in
           record { alike = refl; presented = presented_as _ _ _ _ (i + 1) _ _ _ _ next w.serializer-is (ap (λ v. v.items) w.all-is) })
       | in_default-place w ↦
           (let is = read_as table i _ None c.place-item.is w.in_default-place.is in
