@@ -1,5 +1,5 @@
 -- The table of all entries of a map.
-use Rattle.std.proofs.Common.{◌≡◌, ◌∙◌, ℕ, List, [], ◌∷◌, ◌++◌, append-nil, length, map, All, refl, ap, ap₂, sym, subst, inl, inr, Result, Err, arith}
+use Rattle.std.proofs.Common.{◌≡◌, ◌∙◌, ℕ, List, [], ◌∷◌, ◌++◌, append-nil, length, All, refl, ap, ap₂, sym, subst, inl, inr, Result, Err, arith}
 use Rattle.std.specs.Iterator.{Yields, Drains}
 use Rattle.std.specs.Map.Iter.{TakesFirst, deref_pair}
 use Rattle.std.proofs.lemmas.Slice.Zip.{AllZip-map}
