@@ -1,5 +1,5 @@
 //! Archived options, results, boxes, vectors, arrays, texts and tuples: their layouts, their checks and the methods
-//! that read them.
+//! that read them; and iterators over the entries of maps.
 #![tactic(auto)]
 
 mod boxed;

@@ -1,6 +1,5 @@
 //! Iterators over the entries of an archived hash map by ascending place.
 ghost use Rattle.std.specs.Prelude.{All};
-ghost use Rattle.archive_shape_layout.specs.Shape.Shape.{table};
 ghost use Rattle.archive_forms_values.specs.Parts.{HasValue};
 ghost use Rattle.archive_hash_maps.specs.Maps.{IsThere, HasMap};
 ghost use Rattle.archive_hash_maps.specs.Calls.Lists.{ListsEntries, ListsKeys, ListsValues};
