@@ -1,4 +1,5 @@
 pub mod Counted
 pub mod Numbers
 pub mod Plain
+pub mod Positions
 pub mod Runs

@@ -115,10 +115,9 @@ pub fn unescape_text(alloc: Global, argument: &[u8]) -> Result<String, AllocErro
     ensures text { IfOk result (λ text. argument.now ≡ escaped (string_bytes text)) }
     ensures memory { OnErr result (argument.now ≢ []) }
 {
-    match unescape(alloc, argument) {
-        Ok(Some(bytes)) => Ok(unsafe { String::from_utf8_unchecked(bytes) }),
-        Ok(None) => unreachable!(),
-        Err(e) => Err(e),
+    match unescape(alloc, argument)? {
+        Some(bytes) => Ok(unsafe { String::from_utf8_unchecked(bytes) }),
+        None => unreachable!(),
     }
 }
 

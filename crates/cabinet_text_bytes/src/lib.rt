@@ -8,5 +8,5 @@ mod writing;
 
 pub use escape::{first_byte, is_escaped, try_unescape, unescape_text, unescaped_len};
 pub use number::{Decimal, read_count, read_number};
-pub use spelling::{after_prefix, read_truth, split_word};
+pub use spelling::{after_prefix, newline_in, read_truth, split_word};
 pub use writing::{write_escaped, write_escaped_line};

@@ -1,7 +1,14 @@
-//! Reads what texts and lines have in common: prefixes, words and truth values.
-ghost use Rattle.std.specs.Prelude.{◌≡◌, ◌≢◌, ◌<◌, ◌≤◌, ◌++◌, ℕ, length, slice_index};
+//! Reads what texts and lines have in common: newlines, prefixes, words and truth values.
+ghost use Rattle.std.specs.Prelude.{◌≡◌, ◌≢◌, ◌<◌, ◌≤◌, ◌==◌, ◌++◌, ℕ, length, position, slice_index};
 ghost use Rattle.cabinet_text_bytes.specs.Calls.{CutsPrefix, ReadsTruth};
 ghost use Rattle.cabinet_text_bytes.specs.Words.{HasNoSpace, IsAtSpace};
+
+/// Returns the index of the first newline.
+pub fn newline_in(bytes: &[u8]) -> Option<usize>
+    ensures { result ≡ position (λ b. b == 10) bytes.now }
+{
+    bytes.iter().position(|byte| *byte == b'\n')
+}
 
 /// Returns the bytes after a prefix, or `None` if they do not begin with it.
 pub fn after_prefix<'a>(bytes: &'a [u8], prefix: &[u8]) -> Option<&'a [u8]>

@@ -1,29 +1,20 @@
 //! Splits a text into lines, and finds the faults of its first line that do not depend on what is expected there.
-ghost use Rattle.std.specs.Prelude.{◌≡◌, ◌≢◌, ℕ, ◌<◌, ◌++◌, ◌∷◌, [], List, length, slice_index, IfNone, IfSome, IfOk, IfErr, IsUtf8, codes};
+ghost use Rattle.std.specs.Prelude.{◌≡◌, ℕ, ◌<◌, ◌++◌, ◌∷◌, List, length, IfSome, IfOk, IfErr, IsUtf8, codes};
 ghost use Rattle.cabinet_text_grammar.specs.Fault.{rank};
 ghost use Rattle.cabinet_text_bytes.specs.Words.{IsEscaped};
-ghost use Rattle.cabinet_text_reading.specs.Calls.Lines.{HasNoNewline, SplitsLine, LacksLine, LacksDueLine, FindsAfter, IsNoKey};
+ghost use Rattle.cabinet_text_reading.specs.Calls.Lines.{SplitsLine, LacksLine, LacksDueLine, FindsAfter, IsNoKey};
 ghost use Rattle.cabinet_text_reading.specs.Causes.{a_line, next_piece};
 ghost use Rattle.cabinet_text_reading.specs.Lines.{IsLongest};
 
-use cabinet_text_bytes::{after_prefix, unescaped_len};
+use cabinet_text_bytes::{after_prefix, newline_in, unescaped_len};
 use cabinet_text_grammar::Cause;
 use std::marker::Model;
-
-/// Returns the index of the first newline.
-fn newline_at(text: &[u8]) -> Option<usize>
-    ensures none { IfNone result (HasNoNewline text.now) }
-    ensures found { IfSome result (λ end. (end < length text.now) × (slice_index text.now end ≡ 10)) }
-    ensures before { IfSome result (λ end. (k : ℕ) → k < end → slice_index text.now k ≢ 10) }
-{
-    text.iter().position(|byte| *byte == b'\n')
-}
 
 /// Returns the parts of a text before and after its first newline.
 fn split_line(text: &str) -> Option<(&str, &str)>
     ensures { SplitsLine text.now result }
 {
-    let end = newline_at(text.as_bytes())?;
+    let end = newline_in(text.as_bytes())?;
     Some((&text[..end], &text[end + 1..]))
 }
 

@@ -1,6 +1,8 @@
 //! Splits an input into sections: a document's text, a line `lines`, lines about it, and a line `end`.
 ghost use Rattle.std.specs.Prelude.{◌<◌, length, IfSome};
 
+use cabinet_text_bytes::newline_in;
+
 /// A section of an input: a document's text, and lines about the document.
 #[derive(Drop)]
 pub struct Section<'a> {
@@ -13,7 +15,7 @@ pub fn first_line(bytes: &[u8]) -> (&[u8], &[u8])
     requires { 0 < length bytes.now }
     ensures { length result.1.now < length bytes.now }
 {
-    match bytes.iter().position(|byte| *byte == b'\n') {
+    match newline_in(bytes) {
         Some(end) => (&bytes[..end], &bytes[end + 1..]),
         None => (bytes, &[]),
     }
