@@ -13,4 +13,5 @@ mod writer_ext;
 
 pub use buffer::Buffer;
 pub use serializer::{HighSerializer, Serializer};
+pub use sharing::pad_empty;
 pub use writer_ext::WriterExt;

@@ -10,7 +10,7 @@ use archive_forms_writing::SerializeUnsized;
 use archive_shape::{Allocator, Error, Sharing, SharingState, Writer};
 
 /// Writes a zero byte after a value that begins at `start`, if the value has no bytes.
-fn pad_empty<W: Writer>(writer: &mut W, start: usize) -> Result<(), Error>
+pub fn pad_empty<W: Writer>(writer: &mut W, start: usize) -> Result<(), Error>
     requires { W.failures writer.old < 2 ^ 64 - 1 }
     ensures { Writes W.Writer writer.old writer.new
         (zeros (shared_padding start (W.pos writer.old))) result }
@@ -28,23 +28,14 @@ impl<W: Writer, A: Allocator, S: Sharing> SharingExt for Serializer<W, A, S> {
         key: usize,
         value: &U,
     ) -> Result<usize, Error> {
-        match self.sharing.start_sharing(key) {
-            Ok(SharingState::Started) => {}
-            Ok(SharingState::Pending) => return Err(Error::CyclicSharedPointer),
-            Ok(SharingState::Finished(pos)) => return Ok(pos),
-            Err(e) => return Err(e),
+        match self.sharing.start_sharing(key)? {
+            SharingState::Started => {}
+            SharingState::Pending => return Err(Error::CyclicSharedPointer),
+            SharingState::Finished(pos) => return Ok(pos),
         }
-        let pos = match value.serialize_unsized(self) {
-            Ok(pos) => pos,
-            Err(e) => return Err(e),
-        };
-        match pad_empty(&mut self.writer, pos) {
-            Ok(()) => {}
-            Err(e) => return Err(e),
-        }
-        match self.sharing.finish_sharing(key, pos) {
-            Ok(()) => Ok(pos),
-            Err(e) => Err(e),
-        }
+        let pos = value.serialize_unsized(self)?;
+        pad_empty(&mut self.writer, pos)?;
+        self.sharing.finish_sharing(key, pos)?;
+        Ok(pos)
     }
 }

@@ -71,13 +71,8 @@ impl<W: Writer> WriterExt for W {
         value: &T,
         resolver: T::Resolver,
     ) -> Result<usize, Error> {
-        let pos = match align(self, T::Archived::ALIGN) {
-            Ok(pos) => pos,
-            Err(e) => return Err(e),
-        };
-        match resolve_aligned(alloc, value, resolver, self) {
-            Ok(()) => Ok(pos),
-            Err(e) => Err(e),
-        }
+        let pos = align(self, T::Archived::ALIGN)?;
+        resolve_aligned(alloc, value, resolver, self)?;
+        Ok(pos)
     }
 }

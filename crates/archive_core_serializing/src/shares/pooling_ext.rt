@@ -27,23 +27,17 @@ impl<T: ExactClone + Drop, P: Pooling<T>> PoolingExt<T> for P {
         pos: usize,
         step: F,
     ) -> Result<T, Error> {
-        match self.start_pooling(pos) {
-            Ok(PoolingState::Started) => {}
-            Ok(PoolingState::Pending) => return Err(Error::CyclicSharedPointer),
-            Ok(PoolingState::Finished(value)) => return Ok(value),
-            Err(e) => return Err(e),
+        match self.start_pooling(pos)? {
+            PoolingState::Started => {}
+            PoolingState::Pending => return Err(Error::CyclicSharedPointer),
+            PoolingState::Finished(value) => return Ok(value),
         }
-        let value = match step(self, pos) {
-            Ok(value) => value,
-            Err(e) => return Err(e),
-        };
+        let value = step(self, pos)?;
         let copy = match value.clone() {
             Ok(copy) => copy,
             Err(_) => return Err(Error::OutOfMemory),
         };
-        match self.finish_pooling(pos, copy) {
-            Ok(()) => Ok(value),
-            Err(e) => Err(e),
-        }
+        self.finish_pooling(pos, copy)?;
+        Ok(value)
     }
 }
