@@ -1,6 +1,6 @@
 -- What writing a shared text does, by whether it was seen before.
-use Rattle.std.proofs.Common.{◌≡◌, ℕ, suc, ◌+◌, ◌^◌, ◌≤◌, ◌<◌, ◌==◌, cond, Bool, true, false, List, [], ◌∷◌, ◌++◌, length, refl, sym, ap, subst, ◌∙◌, inl, inr, Ok, Err, Option, Some, None, arith, append-nil, add-zero, eq-eqb, eqb-true}
-use Rattle.std.proofs.lemmas.Bool.{eqb-false, ne_eqb}
+use Rattle.std.proofs.Common.{◌≡◌, ℕ, ◌+◌, ◌^◌, ◌≤◌, ◌<◌, ◌==◌, cond, Bool, true, false, List, [], ◌∷◌, ◌++◌, length, refl, sym, ap, ap₂, subst, ◌∙◌, inl, inr, Ok, Err, Option, Some, None, append-nil, add-zero, eqb-true}
+use Rattle.std.proofs.lemmas.Bool.{eqb-false}
 use Rattle.std.specs.Prelude.{Result, IsUtf8}
 use Rattle.archive_shape_layout.specs.Shape.Pointee.{str}
 use Rattle.archive_shape_layout.specs.Value.Value.{string}
@@ -18,13 +18,6 @@ use Rattle.archive_forms_laws.specs.Serializing.{IsAt, LaysData, of_data, progre
 use Rattle.archive_forms_laws.proofs.Progress.{unmet_key, ended_key}
 use Rattle.archive_forms_writing.proofs.Laying.{Wrote, Stops, Fails, wrote_both, stopped_first, stopped_after, as_data, fails_as_data}
 use Rattle.cabinet_documents.specs.SharedKeys.{key_of_text}
-use Rattle.cabinet_archived.specs.Sharing.{text_padding}
-
-pub padding_is : (t : List ℕ) (pos : ℕ) → zeros (shared_padding pos (pos + length t)) ≡ text_padding t
-padding_is [] pos = let same : (pos + 0 == pos) ≡ true = eq-eqb (pos + 0) pos (omega arith) in ap (λ b. zeros (cond b 1 0)) same
-padding_is (b ∷ s) pos =
-    let more : (pos + suc (length s) == pos) ≡ false = ne_eqb (pos + suc (length s)) pos (λ e. omega (arith, e)) in
-    ap (λ b. zeros (cond b 1 0)) more
 
 module _ {W : Type 0} (m : WriterMembers W) (t : List ℕ) where
   -- what a call promises, by what was visited under the text's number
@@ -62,9 +55,6 @@ module _ {W : Type 0} (m : WriterMembers W) (t : List ℕ) where
     abbrev piece : List ℕ
     piece = first_piece str length key_of_text boxed_text_spelling t st
 
-    piece_is : piece ≡ t ++ text_padding t
-    piece_is = ap (λ l. t ++ l) (padding_is t st.pos)
-
     abbrev met : Met
     met = record { key = key_of_text t; visit = record { pos = st.pos; pointee = str; len = length t; value = string t } }
 
@@ -88,18 +78,23 @@ module _ {W : Type 0} (m : WriterMembers W) (t : List ℕ) where
         subst (λ o. Promised st o old new (Err e)) (sym is_new.0)
         (stopped_after (of_data m) piece refused refused refl (λ r. r) (nothing_wrote u) (stopped_first (of_data m) pad piece limit refused refl (λ r. inr (inl (is_new.1, r))) h))
 
-    module _ (mid1 : W) (h : Wrote (of_data m) mid mid1 t) (new : W) where
+    module _ (mid1 : W) (pos : ℕ) (h : Wrote (of_data m) mid mid1 t) (is : pos ≡ st.pos) (after : IsAt m.pos m.known mid1 (advanced (length t) (met ∷ st.met) then)) (new : W) where
+      abbrev pad : List ℕ
+      pad = zeros (shared_padding pos (m.pos mid1))
+
+      piece_is : piece ≡ t ++ pad
+      piece_is = ap₂ (λ start end. t ++ zeros (shared_padding start end)) (sym is) (sym after.stands)
+
       text_wrote : Wrote (of_data m) old mid1 t
       text_wrote = wrote_both (of_data m) t refl (nothing_wrote u) h
 
-      pub stopped_in_pad : (e : Error) → Fails m mid1 new (text_padding t) e → Promised st (visit_of_key st.met (key_of_text t)) old new (Err e)
+      pub stopped_in_pad : (e : Error) → Fails m mid1 new pad e → Promised st (visit_of_key st.met (key_of_text t)) old new (Err e)
       stopped_in_pad e g =
           let none : Error → Type 0 = λ _. ⊥ in
           subst (λ o. Promised st o old new (Err e)) (sym is_new.0) (stopped_after (of_data m) piece none refused piece_is (λ r. absurd r) text_wrote (inl (fails_as_data m g)))
 
-      pub wrote : (pos : ℕ) → pos ≡ st.pos → IsUtf8 t × (st.pos < 2 ^ 32) → IsAt m.pos m.known mid1 (advanced (length t) (met ∷ st.met) then) → Wrote m mid1 new (text_padding t)
-          → Promised st (visit_of_key st.met (key_of_text t)) old new (Ok pos)
-      wrote pos is fits after g =
+      pub wrote : IsUtf8 t × (st.pos < 2 ^ 32) → Wrote m mid1 new pad → Promised st (visit_of_key st.met (key_of_text t)) old new (Ok pos)
+      wrote fits g =
           let all = wrote_both (of_data m) piece piece_is text_wrote (as_data m g) in
           subst (λ o. Promised st o old new (Ok pos)) (sym is_new.0)
           (all, (is, (is_new.1, fits, is_new.0), record { stands = all.moves ∙ ap (λ n. n + length piece) at.stands; knows = λ key. g.keeps key ∙ after.knows key }))

@@ -1,5 +1,5 @@
--- The progress that is kept of shared texts and of wholes, and the padding that follows a text's bytes.
-use Rattle.std.specs.Prelude.{ℕ, ◌/◌, ◌%◌, ◌==◌, cond, List, [], ◌∷◌, Option, Some, None}
+-- The progress that is kept of shared texts and of wholes.
+use Rattle.std.specs.Prelude.{ℕ, ◌/◌, ◌%◌, ◌==◌, cond, Option, Some, None}
 use Rattle.archive_shape_layout.specs.Progress.{Progress}
 use Rattle.archive_shape_layout.specs.Progress.Progress.{unmet, ended}
 
@@ -11,8 +11,3 @@ progress_at (Some pos) = ended pos
 -- an even key is that of a text, and an odd one that of a whole
 abbrev pub of_both : (ℕ → Progress ℕ) → (ℕ → Progress ℕ) → ℕ → Progress ℕ
 of_both texts wholes key = cond (key % 2 == 0) (texts (key / 2)) (wholes (key / 2))
-
--- an empty text is followed by one zero byte
-abbrev pub text_padding : List ℕ → List ℕ
-text_padding [] = 0 ∷ []
-text_padding (b ∷ s) = []

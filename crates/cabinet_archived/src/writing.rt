@@ -121,7 +121,7 @@ fn serialize_maybe<S: NodeSharing>(
     let Some(inner) = content else {
         return Ok(None);
     };
-    let written = serialize_one_each::<NodeIn<'_>, S, _>(
+    let pos = serialize_one_each::<NodeIn<'_>, S, _>(
         &NodeIn {
             wholes,
             node: inner,
@@ -137,16 +137,11 @@ fn serialize_maybe<S: NodeSharing>(
         {
             let _ = &wholes;
             let _ = &inner;
-            match serialize_node(*item, s) {
-                Ok(resolver) => Ok((resolver, PhantomData)),
-                Err(e) => Err(e),
-            }
+            let resolver = serialize_node(*item, s)?;
+            Ok((resolver, PhantomData))
         },
-    );
-    match written {
-        Ok(pos) => Ok(Some(BoxResolver { pos })),
-        Err(e) => Err(e),
-    }
+    )?;
+    Ok(Some(BoxResolver { pos }))
 }
 
 /// Writes the elements of a list after their data.
@@ -164,7 +159,7 @@ fn serialize_list<S: NodeSharing>(
         (trees_within (table_of wholes.now) nodes.now.items)
         serializer.old serializer.new result }
 {
-    let written = serialize_slice_with_each::<Node, NodesIn<'_>, S, _>(
+    let pos = serialize_slice_with_each::<Node, NodesIn<'_>, S, _>(
         &NodesIn { wholes },
         nodes.as_slice(),
         serializer,
@@ -177,16 +172,11 @@ fn serialize_list<S: NodeSharing>(
             ensures { SerializesBy (λ q. q.0) (archived_as (table_of wholes.entry.now)) S.Writer item.now s.old s.new result }
         {
             let _ = &nodes;
-            match serialize_node(NodeIn { wholes, node: item }, s) {
-                Ok(resolver) => Ok((resolver, PhantomData)),
-                Err(e) => Err(e),
-            }
+            let resolver = serialize_node(NodeIn { wholes, node: item }, s)?;
+            Ok((resolver, PhantomData))
         },
-    );
-    match written {
-        Ok(pos) => Ok(VecResolver { pos }),
-        Err(e) => Err(e),
-    }
+    )?;
+    Ok(VecResolver { pos })
 }
 
 /// Writes the search tree of the pairs of an ordered map, each node of it after the data of its pairs.
@@ -222,10 +212,8 @@ fn serialize_ordered<S: NodeSharing>(
             ensures { SerializesBy (λ q. q.0) (archived_as (table_of wholes.entry.now)) S.Writer item.now s.old s.new result }
         {
             let _ = &map;
-            match serialize_node(NodeIn { wholes, node: item }, s) {
-                Ok(resolver) => Ok((resolver, PhantomData)),
-                Err(e) => Err(e),
-            }
+            let resolver = serialize_node(NodeIn { wholes, node: item }, s)?;
+            Ok((resolver, PhantomData))
         },
     )
 }
@@ -263,10 +251,8 @@ fn serialize_hashed<S: NodeSharing>(
             ensures { SerializesBy (λ q. q.0) (archived_as (table_of wholes.entry.now)) S.Writer item.now s.old s.new result }
         {
             let _ = &map;
-            match serialize_node(NodeIn { wholes, node: item }, s) {
-                Ok(resolver) => Ok((resolver, PhantomData)),
-                Err(e) => Err(e),
-            }
+            let resolver = serialize_node(NodeIn { wholes, node: item }, s)?;
+            Ok((resolver, PhantomData))
         },
     )
 }
@@ -304,10 +290,8 @@ fn serialize_kept<S: NodeSharing>(
             ensures { SerializesBy (λ q. q.0) (archived_as (table_of wholes.entry.now)) S.Writer item.now s.old s.new result }
         {
             let _ = &pairs;
-            match serialize_node(NodeIn { wholes, node: item }, s) {
-                Ok(resolver) => Ok((resolver, PhantomData)),
-                Err(e) => Err(e),
-            }
+            let resolver = serialize_node(NodeIn { wholes, node: item }, s)?;
+            Ok((resolver, PhantomData))
         },
     )
 }
@@ -326,14 +310,13 @@ fn serialize_whole<S: NodeSharing>(
     ensures { Serializes (shared_value_spelling node_shape (key_of_whole (table_of wholes.now)) (node_spelling (table_of wholes.now)))
         S.Writer (tree_numbered (numbered (table_of wholes.now) number)) serializer.old serializer.new result }
 {
-    match serializer.start_whole(number) {
-        Ok(SharingState::Started) => {}
-        Ok(SharingState::Pending) => return Err(Error::CyclicSharedPointer),
-        Ok(SharingState::Finished(pos)) => return Ok(pos),
-        Err(e) => return Err(e),
+    match serializer.start_whole(number)? {
+        SharingState::Started => {}
+        SharingState::Pending => return Err(Error::CyclicSharedPointer),
+        SharingState::Finished(pos) => return Ok(pos),
     }
     let inner = &wholes[number as usize];
-    let written = serialize_one_each::<NodeIn<'_>, S, _>(
+    let pos = serialize_one_each::<NodeIn<'_>, S, _>(
         &NodeIn {
             wholes,
             node: inner,
@@ -349,20 +332,12 @@ fn serialize_whole<S: NodeSharing>(
         {
             let _ = &wholes;
             let _ = &inner;
-            match serialize_node(*item, s) {
-                Ok(resolver) => Ok((resolver, PhantomData)),
-                Err(e) => Err(e),
-            }
+            let resolver = serialize_node(*item, s)?;
+            Ok((resolver, PhantomData))
         },
-    );
-    let pos = match written {
-        Ok(pos) => pos,
-        Err(e) => return Err(e),
-    };
-    match serializer.finish_whole(number, pos) {
-        Ok(()) => Ok(pos),
-        Err(e) => Err(e),
-    }
+    )?;
+    serializer.finish_whole(number, pos)?;
+    Ok(pos)
 }
 
 /// Writes the data of a node, and each whole once. The depth of its recursion is at most the depth at which nodes lie in
@@ -381,38 +356,35 @@ fn serialize_node<S: NodeSharing>(
     match node.node {
         Node::Bool(_) => Ok(NodeResolver::Leaf),
         Node::Int(_) => Ok(NodeResolver::Leaf),
-        Node::Text(text) => match text.serialize(serializer) {
-            Ok(kept) => Ok(NodeResolver::Text(kept)),
-            Err(e) => Err(e),
-        },
-        Node::Shared(text) => match serializer.serialize_text(text.as_str()) {
-            Ok(pos) => Ok(NodeResolver::Shared(RcResolver { pos })),
-            Err(e) => Err(e),
-        },
-        Node::Maybe(content) => match serialize_maybe(node.wholes, content, serializer) {
-            Ok(kept) => Ok(NodeResolver::Maybe(kept)),
-            Err(e) => Err(e),
-        },
-        Node::List(nodes) => match serialize_list(node.wholes, nodes, serializer) {
-            Ok(kept) => Ok(NodeResolver::List(kept)),
-            Err(e) => Err(e),
-        },
-        Node::Ordered(map) => match serialize_ordered(node.wholes, map, serializer) {
-            Ok(kept) => Ok(NodeResolver::Ordered(kept)),
-            Err(e) => Err(e),
-        },
-        Node::Hashed(map) => match serialize_hashed(node.wholes, map, serializer) {
-            Ok(kept) => Ok(NodeResolver::Hashed(kept)),
-            Err(e) => Err(e),
-        },
-        Node::Kept(pairs) => match serialize_kept(node.wholes, pairs, serializer) {
-            Ok(kept) => Ok(NodeResolver::Kept(kept)),
-            Err(e) => Err(e),
-        },
-        Node::Whole(number) => match serialize_whole(node.wholes, *number, serializer) {
-            Ok(pos) => Ok(NodeResolver::Whole(RcResolver { pos })),
-            Err(e) => Err(e),
-        },
+        Node::Text(text) => Ok(NodeResolver::Text(text.serialize(serializer)?)),
+        Node::Shared(text) => {
+            let pos = serializer.serialize_text(text.as_str())?;
+            Ok(NodeResolver::Shared(RcResolver { pos }))
+        }
+        Node::Maybe(content) => {
+            let kept = serialize_maybe(node.wholes, content, serializer)?;
+            Ok(NodeResolver::Maybe(kept))
+        }
+        Node::List(nodes) => {
+            let kept = serialize_list(node.wholes, nodes, serializer)?;
+            Ok(NodeResolver::List(kept))
+        }
+        Node::Ordered(map) => {
+            let kept = serialize_ordered(node.wholes, map, serializer)?;
+            Ok(NodeResolver::Ordered(kept))
+        }
+        Node::Hashed(map) => {
+            let kept = serialize_hashed(node.wholes, map, serializer)?;
+            Ok(NodeResolver::Hashed(kept))
+        }
+        Node::Kept(pairs) => {
+            let kept = serialize_kept(node.wholes, pairs, serializer)?;
+            Ok(NodeResolver::Kept(kept))
+        }
+        Node::Whole(number) => {
+            let pos = serialize_whole(node.wholes, *number, serializer)?;
+            Ok(NodeResolver::Whole(RcResolver { pos }))
+        }
     }
 }
 
@@ -434,10 +406,8 @@ pub fn serialize_root<S: NodeSharing>(root: NodeIn<'_>, serializer: &mut S) -> R
             requires state { HasState S.pos S.known s.old }
             ensures { SerializesBy (λ q. q.0) archived_in S.Writer item.now s.old s.new result }
         {
-            match serialize_node(*item, s) {
-                Ok(resolver) => Ok((resolver, PhantomData)),
-                Err(e) => Err(e),
-            }
+            let resolver = serialize_node(*item, s)?;
+            Ok((resolver, PhantomData))
         },
     )
 }

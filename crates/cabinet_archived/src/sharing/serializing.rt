@@ -3,14 +3,12 @@ ghost use Rattle.std.specs.Prelude.{◌≡◌, ◌-◌, ◌^◌, ◌<◌, MatchR
 ghost use Rattle.archive_shape.specs.Sharing.{progress_of};
 ghost use Rattle.archive_shape_layout.specs.Progress.{IsSame, Starts, Finishes};
 ghost use Rattle.archive_shape_layout.specs.declared.error.Error.TheVariants.{OutOfMemory};
-ghost use Rattle.archive_shape_layout.specs.Writing.{Writes};
 ghost use Rattle.archive_forms_laws.specs.Shared.{shared_text_spelling};
 ghost use Rattle.archive_forms_laws.specs.Serializing.{HasState, Serializes};
 ghost use Rattle.cabinet_documents.specs.SharedKeys.{key_of_text, key_of_number};
-ghost use Rattle.cabinet_archived.specs.Sharing.{text_padding};
 
 use crate::sharing::NodeShare;
-use archive_core_serializing::Serializer;
+use archive_core_serializing::{Serializer, pad_empty};
 use archive_forms_writing::serialize_str;
 use archive_shape::{Allocator, Error, Positional, Sharing, SharingState, Writer};
 
@@ -44,18 +42,6 @@ pub trait NodeSharing: Writer + Allocator {
             (Self.known self.old (key_of_number number)) };
 }
 
-/// Writes a zero byte after an empty text.
-fn pad_empty<W: Writer>(writer: &mut W, text: &str) -> Result<(), Error>
-    requires { W.failures writer.old < 2 ^ 64 - 1 }
-    ensures { Writes W.Writer writer.old writer.new (text_padding text.now) result }
-{
-    if text.is_empty() {
-        writer.write(&[0])
-    } else {
-        Ok(())
-    }
-}
-
 impl<W: Writer, A: Allocator> NodeSharing for Serializer<W, A, NodeShare> {
     fn serialize_text(&mut self, text: &str) -> Result<usize, Error> {
         if let Some(pos) = self.sharing.texts.position(text) {
@@ -63,18 +49,10 @@ impl<W: Writer, A: Allocator> NodeSharing for Serializer<W, A, NodeShare> {
         }
         let alloc = self.allocator.memory();
         let next = self.writer.pos();
-        match self.sharing.texts.keep(alloc, text, next) {
-            Ok(()) => {}
-            Err(e) => return Err(e),
-        }
-        let pos = match serialize_str(text, self) {
-            Ok(pos) => pos,
-            Err(e) => return Err(e),
-        };
-        match pad_empty(&mut self.writer, text) {
-            Ok(()) => Ok(pos),
-            Err(e) => Err(e),
-        }
+        self.sharing.texts.keep(alloc, text, next)?;
+        let pos = serialize_str(text, self)?;
+        pad_empty(&mut self.writer, pos)?;
+        Ok(pos)
     }
 
     fn start_whole(&mut self, number: u64) -> Result<SharingState, Error> {

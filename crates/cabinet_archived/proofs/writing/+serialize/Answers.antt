@@ -23,27 +23,38 @@ use Rattle.cabinet_archived.proofs.Wholes.{some_numbered, some_written, some_sto
 use Rattle.cabinet_archived.proofs.Written.{depth_within, list_written, list_stopped, pairs_written, table_written, element_below, pair_below, element_numbered, pair_numbered, only_element, text_wrote, shared_wrote, shared_refused, maybe_wrote, maybe_refused, list_wrote, list_refused, ordered_wrote, ordered_refused, hashed_wrote, hashed_refused, index_written, kept_wrote, kept_refused, whole_wrote, whole_refused}
 use Rattle.cabinet_archived.proofs.writing.+serialize.Goals as goal
 
-pub serialize_list-serialize_slice_with_each-written-requires-clause-takes : goal.serialize_list-serialize_slice_with_each-written-requires-clause-takes
-serialize_list-serialize_slice_with_each-written-requires-clause-takes g t c = λ x s element room state.
+pub serialize_list-serialize_slice_with_each-returns-in_err-resolver : goal.serialize_list-serialize_slice_with_each-returns-in_err-resolver
+serialize_list-serialize_slice_with_each-returns-in_err-resolver g t c = λ st at.
+    let is : c.from_residual.result ≡ Err c.in_err-resolver.field-0.0 = search rules in
+    rw is (c.in_err-resolver.ensures st at)
+
+pub serialize_list-serialize_slice_with_each-requires-clause-takes : goal.serialize_list-serialize_slice_with_each-requires-clause-takes
+serialize_list-serialize_slice_with_each-requires-clause-takes g t c = λ x s element room state.
     let is = subst (λ ns. IsElement ns x.now) c.as_slice.ensures.value element in
     let below = element_below (table_of c.args.wholes.now) c.args.nodes.now.items x.now is in
     let known = element_numbered (table_of c.args.wholes.now) c.args.nodes.now.items x.now c.requires.numbered is in
     search (rules, below, known)
 
-pub serialize_list-returns-in-Ok : goal.serialize_list-returns-in-Ok
-serialize_list-returns-in-Ok g t c =
+pub serialize_list-returns : goal.serialize_list-returns
+serialize_list-returns g t c =
     let m : WriterMembers g.row.S.Denot = record { known = g.S.Registry.known; pos = g.S.Positional.pos; OBSERVABLE = g.S.Writer.OBSERVABLE; COUNTS = g.S.Writer.COUNTS; contents = g.S.Writer.contents; failures = g.S.Writer.failures; last_error = g.S.Writer.last_error } in
-    let h = subst (λ ns. Serializes (slice_spelling node_shape (archived_as (table_of c.args.wholes.now))) m ns c.args.serializer.now c.serialize_slice_with_each-written.new.serializer (Ok c.in-Ok.pos)) c.as_slice.ensures.value c.in-Ok.ensures in
-    list_written (table_of c.args.wholes.now) m c.args.nodes.now.items c.args.serializer.now c.serialize_slice_with_each-written.new.serializer c.in-Ok.pos h
+    let h = subst (λ ns. Serializes (slice_spelling node_shape (archived_as (table_of c.args.wholes.now))) m ns c.args.serializer.now c.serialize_slice_with_each.new.serializer (Ok c.in_ok-pos.pos)) c.as_slice.ensures.value c.in_ok-pos.ensures in
+    list_written (table_of c.args.wholes.now) m c.args.nodes.now.items c.args.serializer.now c.serialize_slice_with_each.new.serializer c.in_ok-pos.pos h
 
-pub serialize_list-returns-in-Err : goal.serialize_list-returns-in-Err
-serialize_list-returns-in-Err g t c =
+pub serialize_list-returns-in_err-pos : goal.serialize_list-returns-in_err-pos
+serialize_list-returns-in_err-pos g t c =
     let m : WriterMembers g.row.S.Denot = record { known = g.S.Registry.known; pos = g.S.Positional.pos; OBSERVABLE = g.S.Writer.OBSERVABLE; COUNTS = g.S.Writer.COUNTS; contents = g.S.Writer.contents; failures = g.S.Writer.failures; last_error = g.S.Writer.last_error } in
-    let h = subst (λ ns. Serializes (slice_spelling node_shape (archived_as (table_of c.args.wholes.now))) m ns c.args.serializer.now c.serialize_slice_with_each-written.new.serializer (Err c.in-Err.e)) c.as_slice.ensures.value c.in-Err.ensures in
-    list_stopped (table_of c.args.wholes.now) m c.args.nodes.now.items c.args.serializer.now c.serialize_slice_with_each-written.new.serializer c.in-Err.e h
+    let h = subst (λ ns. Serializes (slice_spelling node_shape (archived_as (table_of c.args.wholes.now))) m ns c.args.serializer.now c.serialize_slice_with_each.new.serializer (Err c.in_err-pos.field-0.0)) c.as_slice.ensures.value c.in_err-pos.ensures in
+    let is : c.from_residual.result ≡ Err c.in_err-pos.field-0.0 = search rules in
+    rw is (list_stopped (table_of c.args.wholes.now) m c.args.nodes.now.items c.args.serializer.now c.serialize_slice_with_each.new.serializer c.in_err-pos.field-0.0 h)
 
-pub serialize_maybe-serialize_one_each-written-requires-clause-takes : goal.serialize_maybe-serialize_one_each-written-requires-clause-takes
-serialize_maybe-serialize_one_each-written-requires-clause-takes g t c = λ x s element room state.
+pub serialize_maybe-serialize_one_each-returns-in_err-resolver : goal.serialize_maybe-serialize_one_each-returns-in_err-resolver
+serialize_maybe-serialize_one_each-returns-in_err-resolver g t c = λ st at.
+    let is : c.from_residual.result ≡ Err c.in_err-resolver.field-0.0 = search rules in
+    rw is (c.in_err-resolver.ensures st at)
+
+pub serialize_maybe-serialize_one_each-requires-clause-takes : goal.serialize_maybe-serialize_one_each-requires-clause-takes
+serialize_maybe-serialize_one_each-requires-clause-takes g t c = λ x s element room state.
     let is = only_element _ x.now element in
     let at : node_tree (table_of c.args.wholes.now) c.deref.result.now ≡ node_tree (table_of c.args.wholes.now) c.in-Some.inner.value = ap (node_tree (table_of c.args.wholes.now)) c.deref.ensures in
     let same : node_tree (table_in x.now) x.now.node.now ≡ node_tree (table_of c.args.wholes.now) c.in-Some.inner.value = ap (λ (y : NodeIn). node_tree (table_in y) y.node.now) is ∙ at in
@@ -53,50 +64,59 @@ serialize_maybe-serialize_one_each-written-requires-clause-takes g t c = λ x s 
     let deep : depth_within (table_of c.args.wholes.now) c.args.content.now ≡ depth (node_tree (table_of c.args.wholes.now) c.in-Some.inner.value) = ap (depth_within (table_of c.args.wholes.now)) c.in-Some.is in
     (search (rules, arith, deep), ((λ life among. among), (same, (table, (known, (room, state))))))
 
-pub serialize_maybe-returns-in-Ok : goal.serialize_maybe-returns-in-Ok
-serialize_maybe-returns-in-Ok g t c =
+pub serialize_maybe-returns : goal.serialize_maybe-returns
+serialize_maybe-returns g t c =
     let m : WriterMembers g.row.S.Denot = record { known = g.S.Registry.known; pos = g.S.Positional.pos; OBSERVABLE = g.S.Writer.OBSERVABLE; COUNTS = g.S.Writer.COUNTS; contents = g.S.Writer.contents; failures = g.S.Writer.failures; last_error = g.S.Writer.last_error } in
-    some_written (table_of c.args.wholes.now) m c.args.content.now c.in-Some.inner c.deref.result.now c.args.serializer.now c.serialize_one_each-written.new.serializer c.in-Ok.pos c.in-Some.is c.deref.ensures c.in-Ok.ensures
+    some_written (table_of c.args.wholes.now) m c.args.content.now c.in-Some.inner c.deref.result.now c.args.serializer.now c.serialize_one_each.new.serializer c.in_ok-pos.pos c.in-Some.is c.deref.ensures c.in_ok-pos.ensures
 
-pub serialize_maybe-returns-in-Err : goal.serialize_maybe-returns-in-Err
-serialize_maybe-returns-in-Err g t c =
+pub serialize_maybe-returns-in_err-pos : goal.serialize_maybe-returns-in_err-pos
+serialize_maybe-returns-in_err-pos g t c =
     let m : WriterMembers g.row.S.Denot = record { known = g.S.Registry.known; pos = g.S.Positional.pos; OBSERVABLE = g.S.Writer.OBSERVABLE; COUNTS = g.S.Writer.COUNTS; contents = g.S.Writer.contents; failures = g.S.Writer.failures; last_error = g.S.Writer.last_error } in
-    some_stopped (table_of c.args.wholes.now) m c.args.content.now c.in-Some.inner c.deref.result.now c.args.serializer.now c.serialize_one_each-written.new.serializer c.in-Err.e c.in-Some.is c.deref.ensures c.in-Err.ensures
+    let is : c.from_residual.result ≡ Err c.in_err-pos.field-0.0 = search rules in
+    rw is (some_stopped (table_of c.args.wholes.now) m c.args.content.now c.in-Some.inner c.deref.result.now c.args.serializer.now c.serialize_one_each.new.serializer c.in_err-pos.field-0.0 c.in-Some.is c.deref.ensures c.in_err-pos.ensures)
 
-pub serialize_node-returns-in-Ok : goal.serialize_node-returns-in-Ok
-serialize_node-returns-in-Ok g t c =
+pub serialize_node-returns-in_ok-serialize-in-Text : goal.serialize_node-returns-in_ok-serialize-in-Text
+serialize_node-returns-in_ok-serialize-in-Text g t c =
     let m : WriterMembers g.row.S.Denot = record { known = g.S.Registry.known; pos = g.S.Positional.pos; OBSERVABLE = g.S.Writer.OBSERVABLE; COUNTS = g.S.Writer.COUNTS; contents = g.S.Writer.contents; failures = g.S.Writer.failures; last_error = g.S.Writer.last_error } in
-    text_wrote (table_in c.args.node) m c.args.node.node.now c.args.serializer.now c.serialize.new.serializer c.in-Text.text c.in-Ok.kept c.in-Text.is c.in-Ok.ensures
+    text_wrote (table_in c.args.node) m c.args.node.node.now c.args.serializer.now c.serialize.new.serializer c.in-Text.text c.in_ok-serialize-in-Text.field-0 c.in-Text.is c.in_ok-serialize-in-Text.ensures
 
-pub serialize_node-returns-in-Ok-serialize_text : goal.serialize_node-returns-in-Ok-serialize_text
-serialize_node-returns-in-Ok-serialize_text g t c =
+pub serialize_node-returns-in_ok-pos-in-Shared : goal.serialize_node-returns-in_ok-pos-in-Shared
+serialize_node-returns-in_ok-pos-in-Shared g t c =
     let m : WriterMembers g.row.S.Denot = record { known = g.S.Registry.known; pos = g.S.Positional.pos; OBSERVABLE = g.S.Writer.OBSERVABLE; COUNTS = g.S.Writer.COUNTS; contents = g.S.Writer.contents; failures = g.S.Writer.failures; last_error = g.S.Writer.last_error } in
-    shared_wrote (table_in c.args.node) m c.args.node.node.now c.args.serializer.now c.serialize_text.new.self c.in-Shared.text c.as_str.result.now c.in-Ok-serialize_text.pos c.in-Shared.is c.as_str.ensures.value c.in-Ok-serialize_text.ensures
+    shared_wrote (table_in c.args.node) m c.args.node.node.now c.args.serializer.now c.serialize_text.new.self c.in-Shared.text c.as_str.result.now c.in_ok-pos-in-Shared.pos c.in-Shared.is c.as_str.ensures.value c.in_ok-pos-in-Shared.ensures
 
-pub serialize_node-returns-in-Err-serialize_text : goal.serialize_node-returns-in-Err-serialize_text
-serialize_node-returns-in-Err-serialize_text g t c =
+pub serialize_node-returns-in_err-pos-in-Shared : goal.serialize_node-returns-in_err-pos-in-Shared
+serialize_node-returns-in_err-pos-in-Shared g t c =
     let m : WriterMembers g.row.S.Denot = record { known = g.S.Registry.known; pos = g.S.Positional.pos; OBSERVABLE = g.S.Writer.OBSERVABLE; COUNTS = g.S.Writer.COUNTS; contents = g.S.Writer.contents; failures = g.S.Writer.failures; last_error = g.S.Writer.last_error } in
-    shared_refused (table_in c.args.node) m c.args.node.node.now c.args.serializer.now c.serialize_text.new.self c.in-Shared.text c.as_str.result.now c.in-Err-serialize_text.e c.in-Shared.is c.as_str.ensures.value c.in-Err-serialize_text.ensures
+    let is : c.from_residual-in_err-pos-in-Shared.result ≡ Err c.in_err-pos-in-Shared.field-0.0 = search rules in
+    rw is (shared_refused (table_in c.args.node) m c.args.node.node.now c.args.serializer.now c.serialize_text.new.self c.in-Shared.text c.as_str.result.now c.in_err-pos-in-Shared.field-0.0 c.in-Shared.is c.as_str.ensures.value c.in_err-pos-in-Shared.ensures)
 
-pub serialize_node-returns-in-Ok-serialize_maybe : goal.serialize_node-returns-in-Ok-serialize_maybe
-serialize_node-returns-in-Ok-serialize_maybe g t c =
+pub serialize_node-returns-in_ok-kept-in-Maybe : goal.serialize_node-returns-in_ok-kept-in-Maybe
+serialize_node-returns-in_ok-kept-in-Maybe g t c =
     let m : WriterMembers g.row.S.Denot = record { known = g.S.Registry.known; pos = g.S.Positional.pos; OBSERVABLE = g.S.Writer.OBSERVABLE; COUNTS = g.S.Writer.COUNTS; contents = g.S.Writer.contents; failures = g.S.Writer.failures; last_error = g.S.Writer.last_error } in
-    maybe_wrote (table_in c.args.node) m c.args.node.node.now c.args.serializer.now c.serialize_maybe.new.serializer c.in-Maybe.content c.in-Ok-serialize_maybe.kept c.in-Maybe.is c.in-Ok-serialize_maybe.ensures
+    maybe_wrote (table_in c.args.node) m c.args.node.node.now c.args.serializer.now c.serialize_maybe.new.serializer c.in-Maybe.content c.in_ok-kept-in-Maybe.kept c.in-Maybe.is c.in_ok-kept-in-Maybe.ensures
 
-pub serialize_node-returns-in-Err-serialize_maybe : goal.serialize_node-returns-in-Err-serialize_maybe
-serialize_node-returns-in-Err-serialize_maybe g t c =
+pub serialize_node-returns-in_err-kept-in-Maybe : goal.serialize_node-returns-in_err-kept-in-Maybe
+serialize_node-returns-in_err-kept-in-Maybe g t c =
     let m : WriterMembers g.row.S.Denot = record { known = g.S.Registry.known; pos = g.S.Positional.pos; OBSERVABLE = g.S.Writer.OBSERVABLE; COUNTS = g.S.Writer.COUNTS; contents = g.S.Writer.contents; failures = g.S.Writer.failures; last_error = g.S.Writer.last_error } in
-    maybe_refused (table_in c.args.node) m c.args.node.node.now c.args.serializer.now c.serialize_maybe.new.serializer c.in-Maybe.content c.in-Err-serialize_maybe.e c.in-Maybe.is c.in-Err-serialize_maybe.ensures
+    let is : c.from_residual-in_err-kept-in-Maybe.result ≡ Err c.in_err-kept-in-Maybe.field-0.0 = search rules in
+    rw is (maybe_refused (table_in c.args.node) m c.args.node.node.now c.args.serializer.now c.serialize_maybe.new.serializer c.in-Maybe.content c.in_err-kept-in-Maybe.field-0.0 c.in-Maybe.is c.in_err-kept-in-Maybe.ensures)
 
-pub serialize_node-returns-in-Ok-serialize_list : goal.serialize_node-returns-in-Ok-serialize_list
-serialize_node-returns-in-Ok-serialize_list g t c =
+pub serialize_node-returns-in_ok-kept-in-List : goal.serialize_node-returns-in_ok-kept-in-List
+serialize_node-returns-in_ok-kept-in-List g t c =
     let m : WriterMembers g.row.S.Denot = record { known = g.S.Registry.known; pos = g.S.Positional.pos; OBSERVABLE = g.S.Writer.OBSERVABLE; COUNTS = g.S.Writer.COUNTS; contents = g.S.Writer.contents; failures = g.S.Writer.failures; last_error = g.S.Writer.last_error } in
-    list_wrote (table_in c.args.node) m c.args.node.node.now c.args.serializer.now c.serialize_list.new.serializer c.in-List.nodes c.in-Ok-serialize_list.kept c.in-List.is c.in-Ok-serialize_list.ensures
+    list_wrote (table_in c.args.node) m c.args.node.node.now c.args.serializer.now c.serialize_list.new.serializer c.in-List.nodes c.in_ok-kept-in-List.kept c.in-List.is c.in_ok-kept-in-List.ensures
 
-pub serialize_node-returns-in-Err-serialize_list : goal.serialize_node-returns-in-Err-serialize_list
-serialize_node-returns-in-Err-serialize_list g t c =
+pub serialize_node-returns-in_err-kept-in-List : goal.serialize_node-returns-in_err-kept-in-List
+serialize_node-returns-in_err-kept-in-List g t c =
     let m : WriterMembers g.row.S.Denot = record { known = g.S.Registry.known; pos = g.S.Positional.pos; OBSERVABLE = g.S.Writer.OBSERVABLE; COUNTS = g.S.Writer.COUNTS; contents = g.S.Writer.contents; failures = g.S.Writer.failures; last_error = g.S.Writer.last_error } in
-    list_refused (table_in c.args.node) m c.args.node.node.now c.args.serializer.now c.serialize_list.new.serializer c.in-List.nodes c.in-Err-serialize_list.e c.in-List.is c.in-Err-serialize_list.ensures
+    let is : c.from_residual-in_err-kept-in-List.result ≡ Err c.in_err-kept-in-List.field-0.0 = search rules in
+    rw is (list_refused (table_in c.args.node) m c.args.node.node.now c.args.serializer.now c.serialize_list.new.serializer c.in-List.nodes c.in_err-kept-in-List.field-0.0 c.in-List.is c.in_err-kept-in-List.ensures)
+
+pub serialize_ordered-serialize_entries_with_each+arg5-returns-in_err-resolver : goal.serialize_ordered-serialize_entries_with_each+arg5-returns-in_err-resolver
+serialize_ordered-serialize_entries_with_each+arg5-returns-in_err-resolver g t c = λ st at.
+    let is : c.from_residual.result ≡ Err c.in_err-resolver.field-0.0 = search rules in
+    rw is (c.in_err-resolver.ensures st at)
 
 pub serialize_ordered-serialize_entries_with_each-requires-clause-takes_value : goal.serialize_ordered-serialize_entries_with_each-requires-clause-takes_value
 serialize_ordered-serialize_entries_with_each-requires-clause-takes_value g t c = λ x s element room state.
@@ -107,15 +127,21 @@ serialize_ordered-serialize_entries_with_each-requires-clause-takes_value g t c 
 pub serialize_ordered-returns : goal.serialize_ordered-returns
 serialize_ordered-returns g t c = pairs_written (table_of c.args.wholes.now) _ c.args.map.now.entries _ _ _ c.serialize_entries_with_each.ensures
 
-pub serialize_node-returns-in-Ok-serialize_ordered : goal.serialize_node-returns-in-Ok-serialize_ordered
-serialize_node-returns-in-Ok-serialize_ordered g t c =
+pub serialize_node-returns-in_ok-kept-in-Ordered : goal.serialize_node-returns-in_ok-kept-in-Ordered
+serialize_node-returns-in_ok-kept-in-Ordered g t c =
     let m : WriterMembers g.row.S.Denot = record { known = g.S.Registry.known; pos = g.S.Positional.pos; OBSERVABLE = g.S.Writer.OBSERVABLE; COUNTS = g.S.Writer.COUNTS; contents = g.S.Writer.contents; failures = g.S.Writer.failures; last_error = g.S.Writer.last_error } in
-    ordered_wrote (table_in c.args.node) m c.args.node.node.now c.args.serializer.now c.serialize_ordered.new.serializer c.in-Ordered.map c.in-Ok-serialize_ordered.kept c.in-Ordered.is c.in-Ok-serialize_ordered.ensures
+    ordered_wrote (table_in c.args.node) m c.args.node.node.now c.args.serializer.now c.serialize_ordered.new.serializer c.in-Ordered.map c.in_ok-kept-in-Ordered.kept c.in-Ordered.is c.in_ok-kept-in-Ordered.ensures
 
-pub serialize_node-returns-in-Err-serialize_ordered : goal.serialize_node-returns-in-Err-serialize_ordered
-serialize_node-returns-in-Err-serialize_ordered g t c =
+pub serialize_node-returns-in_err-kept-in-Ordered : goal.serialize_node-returns-in_err-kept-in-Ordered
+serialize_node-returns-in_err-kept-in-Ordered g t c =
     let m : WriterMembers g.row.S.Denot = record { known = g.S.Registry.known; pos = g.S.Positional.pos; OBSERVABLE = g.S.Writer.OBSERVABLE; COUNTS = g.S.Writer.COUNTS; contents = g.S.Writer.contents; failures = g.S.Writer.failures; last_error = g.S.Writer.last_error } in
-    ordered_refused (table_in c.args.node) m c.args.node.node.now c.args.serializer.now c.serialize_ordered.new.serializer c.in-Ordered.map c.in-Err-serialize_ordered.e c.in-Ordered.is c.in-Err-serialize_ordered.ensures
+    let is : c.from_residual-in_err-kept-in-Ordered.result ≡ Err c.in_err-kept-in-Ordered.field-0.0 = search rules in
+    rw is (ordered_refused (table_in c.args.node) m c.args.node.node.now c.args.serializer.now c.serialize_ordered.new.serializer c.in-Ordered.map c.in_err-kept-in-Ordered.field-0.0 c.in-Ordered.is c.in_err-kept-in-Ordered.ensures)
+
+pub serialize_hashed-serialize_entries_with_each+arg5-returns-in_err-resolver : goal.serialize_hashed-serialize_entries_with_each+arg5-returns-in_err-resolver
+serialize_hashed-serialize_entries_with_each+arg5-returns-in_err-resolver g t c = λ st at.
+    let is : c.from_residual.result ≡ Err c.in_err-resolver.field-0.0 = search rules in
+    rw is (c.in_err-resolver.ensures st at)
 
 pub serialize_hashed-serialize_entries_with_each-requires-clause-takes_value : goal.serialize_hashed-serialize_entries_with_each-requires-clause-takes_value
 serialize_hashed-serialize_entries_with_each-requires-clause-takes_value g t c = λ x s element room state.
@@ -126,15 +152,21 @@ serialize_hashed-serialize_entries_with_each-requires-clause-takes_value g t c =
 pub serialize_hashed-returns : goal.serialize_hashed-returns
 serialize_hashed-returns g t c = table_written (table_of c.args.wholes.now) _ c.args.map.now.entries _ _ _ c.serialize_entries_with_each.ensures
 
-pub serialize_node-returns-in-Ok-serialize_hashed : goal.serialize_node-returns-in-Ok-serialize_hashed
-serialize_node-returns-in-Ok-serialize_hashed g t c =
+pub serialize_node-returns-in_ok-kept-in-Hashed : goal.serialize_node-returns-in_ok-kept-in-Hashed
+serialize_node-returns-in_ok-kept-in-Hashed g t c =
     let m : WriterMembers g.row.S.Denot = record { known = g.S.Registry.known; pos = g.S.Positional.pos; OBSERVABLE = g.S.Writer.OBSERVABLE; COUNTS = g.S.Writer.COUNTS; contents = g.S.Writer.contents; failures = g.S.Writer.failures; last_error = g.S.Writer.last_error } in
-    hashed_wrote (table_in c.args.node) m c.args.node.node.now c.args.serializer.now c.serialize_hashed.new.serializer c.in-Hashed.map c.in-Ok-serialize_hashed.kept c.in-Hashed.is c.in-Ok-serialize_hashed.ensures
+    hashed_wrote (table_in c.args.node) m c.args.node.node.now c.args.serializer.now c.serialize_hashed.new.serializer c.in-Hashed.map c.in_ok-kept-in-Hashed.kept c.in-Hashed.is c.in_ok-kept-in-Hashed.ensures
 
-pub serialize_node-returns-in-Err-serialize_hashed : goal.serialize_node-returns-in-Err-serialize_hashed
-serialize_node-returns-in-Err-serialize_hashed g t c =
+pub serialize_node-returns-in_err-kept-in-Hashed : goal.serialize_node-returns-in_err-kept-in-Hashed
+serialize_node-returns-in_err-kept-in-Hashed g t c =
     let m : WriterMembers g.row.S.Denot = record { known = g.S.Registry.known; pos = g.S.Positional.pos; OBSERVABLE = g.S.Writer.OBSERVABLE; COUNTS = g.S.Writer.COUNTS; contents = g.S.Writer.contents; failures = g.S.Writer.failures; last_error = g.S.Writer.last_error } in
-    hashed_refused (table_in c.args.node) m c.args.node.node.now c.args.serializer.now c.serialize_hashed.new.serializer c.in-Hashed.map c.in-Err-serialize_hashed.e c.in-Hashed.is c.in-Err-serialize_hashed.ensures
+    let is : c.from_residual-in_err-kept-in-Hashed.result ≡ Err c.in_err-kept-in-Hashed.field-0.0 = search rules in
+    rw is (hashed_refused (table_in c.args.node) m c.args.node.node.now c.args.serializer.now c.serialize_hashed.new.serializer c.in-Hashed.map c.in_err-kept-in-Hashed.field-0.0 c.in-Hashed.is c.in_err-kept-in-Hashed.ensures)
+
+pub serialize_kept-serialize_entries_with_each+arg5-returns-in_err-resolver : goal.serialize_kept-serialize_entries_with_each+arg5-returns-in_err-resolver
+serialize_kept-serialize_entries_with_each+arg5-returns-in_err-resolver g t c = λ st at.
+    let is : c.from_residual.result ≡ Err c.in_err-resolver.field-0.0 = search rules in
+    rw is (c.in_err-resolver.ensures st at)
 
 pub serialize_kept-serialize_entries_with_each-requires-clause-takes_value : goal.serialize_kept-serialize_entries_with_each-requires-clause-takes_value
 serialize_kept-serialize_entries_with_each-requires-clause-takes_value g t c = λ x s element room state.
@@ -146,15 +178,16 @@ serialize_kept-serialize_entries_with_each-requires-clause-takes_value g t c = �
 pub serialize_kept-returns : goal.serialize_kept-returns
 serialize_kept-returns g t c = index_written (table_of c.args.wholes.now) _ c.args.pairs.now.items _ _ _ (rw (sym c.as_slice.ensures.value) c.serialize_entries_with_each.ensures)
 
-pub serialize_node-returns-in-Ok-serialize_kept : goal.serialize_node-returns-in-Ok-serialize_kept
-serialize_node-returns-in-Ok-serialize_kept g t c =
+pub serialize_node-returns-in_ok-kept-in-Kept : goal.serialize_node-returns-in_ok-kept-in-Kept
+serialize_node-returns-in_ok-kept-in-Kept g t c =
     let m : WriterMembers g.row.S.Denot = record { known = g.S.Registry.known; pos = g.S.Positional.pos; OBSERVABLE = g.S.Writer.OBSERVABLE; COUNTS = g.S.Writer.COUNTS; contents = g.S.Writer.contents; failures = g.S.Writer.failures; last_error = g.S.Writer.last_error } in
-    kept_wrote (table_in c.args.node) m c.args.node.node.now c.args.serializer.now c.serialize_kept.new.serializer c.in-Kept.pairs c.in-Ok-serialize_kept.kept c.in-Kept.is c.in-Ok-serialize_kept.ensures
+    kept_wrote (table_in c.args.node) m c.args.node.node.now c.args.serializer.now c.serialize_kept.new.serializer c.in-Kept.pairs c.in_ok-kept-in-Kept.kept c.in-Kept.is c.in_ok-kept-in-Kept.ensures
 
-pub serialize_node-returns-in-Err-serialize_kept : goal.serialize_node-returns-in-Err-serialize_kept
-serialize_node-returns-in-Err-serialize_kept g t c =
+pub serialize_node-returns-in_err-kept-in-Kept : goal.serialize_node-returns-in_err-kept-in-Kept
+serialize_node-returns-in_err-kept-in-Kept g t c =
     let m : WriterMembers g.row.S.Denot = record { known = g.S.Registry.known; pos = g.S.Positional.pos; OBSERVABLE = g.S.Writer.OBSERVABLE; COUNTS = g.S.Writer.COUNTS; contents = g.S.Writer.contents; failures = g.S.Writer.failures; last_error = g.S.Writer.last_error } in
-    kept_refused (table_in c.args.node) m c.args.node.node.now c.args.serializer.now c.serialize_kept.new.serializer c.in-Kept.pairs c.in-Err-serialize_kept.e c.in-Kept.is c.in-Err-serialize_kept.ensures
+    let is : c.from_residual-in_err-kept-in-Kept.result ≡ Err c.in_err-kept-in-Kept.field-0.0 = search rules in
+    rw is (kept_refused (table_in c.args.node) m c.args.node.node.now c.args.serializer.now c.serialize_kept.new.serializer c.in-Kept.pairs c.in_err-kept-in-Kept.field-0.0 c.in-Kept.is c.in_err-kept-in-Kept.ensures)
 
 pub serialize_node-serialize_maybe-requires : goal.serialize_node-serialize_maybe-requires
 serialize_node-serialize_maybe-requires g t c =
@@ -192,18 +225,24 @@ serialize_node-serialize_whole-requires g t c =
     let deep = whole_deep (table_in c.args.node) c.args.node.node.now c.in-Whole.number c.in-Whole.is in
     search (rules, arith, within, deep)
 
-pub serialize_node-returns-in-Ok-serialize_whole : goal.serialize_node-returns-in-Ok-serialize_whole
-serialize_node-returns-in-Ok-serialize_whole g t c =
+pub serialize_node-returns-in_ok-pos-in-Whole : goal.serialize_node-returns-in_ok-pos-in-Whole
+serialize_node-returns-in_ok-pos-in-Whole g t c =
     let m : WriterMembers g.row.S.Denot = record { known = g.S.Registry.known; pos = g.S.Positional.pos; OBSERVABLE = g.S.Writer.OBSERVABLE; COUNTS = g.S.Writer.COUNTS; contents = g.S.Writer.contents; failures = g.S.Writer.failures; last_error = g.S.Writer.last_error } in
-    whole_wrote (table_in c.args.node) m c.args.node.node.now c.args.serializer.now c.serialize_whole.new.serializer c.in-Whole.number c.in-Ok-serialize_whole.pos c.in-Whole.is c.in-Ok-serialize_whole.ensures
+    whole_wrote (table_in c.args.node) m c.args.node.node.now c.args.serializer.now c.serialize_whole.new.serializer c.in-Whole.number c.in_ok-pos-in-Whole.pos c.in-Whole.is c.in_ok-pos-in-Whole.ensures
 
-pub serialize_node-returns-in-Err-serialize_whole : goal.serialize_node-returns-in-Err-serialize_whole
-serialize_node-returns-in-Err-serialize_whole g t c =
+pub serialize_node-returns-in_err-pos-in-Whole : goal.serialize_node-returns-in_err-pos-in-Whole
+serialize_node-returns-in_err-pos-in-Whole g t c =
     let m : WriterMembers g.row.S.Denot = record { known = g.S.Registry.known; pos = g.S.Positional.pos; OBSERVABLE = g.S.Writer.OBSERVABLE; COUNTS = g.S.Writer.COUNTS; contents = g.S.Writer.contents; failures = g.S.Writer.failures; last_error = g.S.Writer.last_error } in
-    whole_refused (table_in c.args.node) m c.args.node.node.now c.args.serializer.now c.serialize_whole.new.serializer c.in-Whole.number c.in-Err-serialize_whole.e c.in-Whole.is c.in-Err-serialize_whole.ensures
+    let is : c.from_residual-in_err-pos-in-Whole.result ≡ Err c.in_err-pos-in-Whole.field-0.0 = search rules in
+    rw is (whole_refused (table_in c.args.node) m c.args.node.node.now c.args.serializer.now c.serialize_whole.new.serializer c.in-Whole.number c.in_err-pos-in-Whole.field-0.0 c.in-Whole.is c.in_err-pos-in-Whole.ensures)
 
-pub serialize_whole-returns-in-Ok-Pending : goal.serialize_whole-returns-in-Ok-Pending
-serialize_whole-returns-in-Ok-Pending g t c = λ st at.
+pub serialize_whole-serialize_one_each-returns-in_err-resolver : goal.serialize_whole-serialize_one_each-returns-in_err-resolver
+serialize_whole-serialize_one_each-returns-in_err-resolver g t c = λ st at.
+    let is : c.from_residual.result ≡ Err c.in_err-resolver.field-0.0 = search rules in
+    rw is (c.in_err-resolver.ensures st at)
+
+pub serialize_whole-returns-in-Pending : goal.serialize_whole-returns-in-Pending
+serialize_whole-returns-in-Pending g t c = λ st at.
     let m : WriterMembers g.row.S.Denot = record { known = g.S.Registry.known; pos = g.S.Positional.pos; OBSERVABLE = g.S.Writer.OBSERVABLE; COUNTS = g.S.Writer.COUNTS; contents = g.S.Writer.contents; failures = g.S.Writer.failures; last_error = g.S.Writer.last_error } in
     let q = sized node_shape in
     let wholes = table_of c.args.wholes.now in
@@ -214,11 +253,11 @@ serialize_whole-returns-in-Ok-Pending g t c = λ st at.
     let mid = c.start_whole.new.self in
     let u : Untouched q (λ y. 1) k w m x old mid = record { contents = c.start_whole.ensures.contents; pos = c.start_whole.ensures.pos; failures = c.start_whole.ensures.failures } in
     let key : key_of_number c.args.number ≡ k = ap key_of_number (sym (number_is c.args.wholes.now c.requires.table c.args.number c.requires.within)) in
-    let starts : Starts (m.known old) (m.known mid) k begun = subst (λ n. Starts (m.known old) (m.known mid) n begun) key (subst (λ s. Starts (m.known old) (m.known mid) (key_of_number c.args.number) (progress_of s)) c.in-Ok-Pending.field-0-is c.in-Ok-Pending.ensures.starts) in
+    let starts : Starts (m.known old) (m.known mid) k begun = subst (λ n. Starts (m.known old) (m.known mid) n begun) key (subst (λ s. Starts (m.known old) (m.known mid) (key_of_number c.args.number) (progress_of s)) c.in-Pending.is c.in_ok-start_whole.ensures.starts) in
     pending q (λ y. 1) k w m x old mid u st at starts
 
-pub serialize_whole-returns-in-Ok-Finished : goal.serialize_whole-returns-in-Ok-Finished
-serialize_whole-returns-in-Ok-Finished g t c = λ st at.
+pub serialize_whole-returns-in-Finished : goal.serialize_whole-returns-in-Finished
+serialize_whole-returns-in-Finished g t c = λ st at.
     let m : WriterMembers g.row.S.Denot = record { known = g.S.Registry.known; pos = g.S.Positional.pos; OBSERVABLE = g.S.Writer.OBSERVABLE; COUNTS = g.S.Writer.COUNTS; contents = g.S.Writer.contents; failures = g.S.Writer.failures; last_error = g.S.Writer.last_error } in
     let q = sized node_shape in
     let wholes = table_of c.args.wholes.now in
@@ -229,20 +268,21 @@ serialize_whole-returns-in-Ok-Finished g t c = λ st at.
     let mid = c.start_whole.new.self in
     let u : Untouched q (λ y. 1) k w m x old mid = record { contents = c.start_whole.ensures.contents; pos = c.start_whole.ensures.pos; failures = c.start_whole.ensures.failures } in
     let key : key_of_number c.args.number ≡ k = ap key_of_number (sym (number_is c.args.wholes.now c.requires.table c.args.number c.requires.within)) in
-    let starts : Starts (m.known old) (m.known mid) k (ended c.in-Ok-Finished.pos) = subst (λ n. Starts (m.known old) (m.known mid) n (ended c.in-Ok-Finished.pos)) key (subst (λ s. Starts (m.known old) (m.known mid) (key_of_number c.args.number) (progress_of s)) c.in-Ok-Finished.field-0-is c.in-Ok-Finished.ensures.starts) in
-    found q (λ y. 1) k w m x old mid u st at c.in-Ok-Finished.pos starts
+    let starts : Starts (m.known old) (m.known mid) k (ended c.in-Finished.pos) = subst (λ n. Starts (m.known old) (m.known mid) n (ended c.in-Finished.pos)) key (subst (λ s. Starts (m.known old) (m.known mid) (key_of_number c.args.number) (progress_of s)) c.in-Finished.is c.in_ok-start_whole.ensures.starts) in
+    found q (λ y. 1) k w m x old mid u st at c.in-Finished.pos starts
 
-pub serialize_whole-returns-in-Err : goal.serialize_whole-returns-in-Err
-serialize_whole-returns-in-Err g t c = λ st at.
+pub serialize_whole-returns-in_err-start_whole : goal.serialize_whole-returns-in_err-start_whole
+serialize_whole-returns-in_err-start_whole g t c = λ st at.
     let m : WriterMembers g.row.S.Denot = record { known = g.S.Registry.known; pos = g.S.Positional.pos; OBSERVABLE = g.S.Writer.OBSERVABLE; COUNTS = g.S.Writer.COUNTS; contents = g.S.Writer.contents; failures = g.S.Writer.failures; last_error = g.S.Writer.last_error } in
-    inr (record {
-      is_cut = λ tells. record { written = []; lost = _; new_is = c.in-Err.ensures.contents ∙ sym (append-nil (m.contents c.args.serializer.now)); piece_is = refl };
-      is_quiet = c.in-Err.ensures.failures;
-      reason = inl c.in-Err.ensures.starts.0;
-    })
+    let is : c.from_residual.result ≡ Err c.in_err-start_whole.field-0.0 = search rules in
+    rw is (inr (record {
+      is_cut = λ tells. record { written = []; lost = _; new_is = c.in_err-start_whole.ensures.contents ∙ sym (append-nil (m.contents c.args.serializer.now)); piece_is = refl };
+      is_quiet = c.in_err-start_whole.ensures.failures;
+      reason = inl c.in_err-start_whole.ensures.starts.0;
+    }))
 
-pub serialize_whole-serialize_one_each-written-requires-clause-state : goal.serialize_whole-serialize_one_each-written-requires-clause-state
-serialize_whole-serialize_one_each-written-requires-clause-state g t c =
+pub serialize_whole-serialize_one_each-requires-clause-state : goal.serialize_whole-serialize_one_each-requires-clause-state
+serialize_whole-serialize_one_each-requires-clause-state g t c =
     let m : WriterMembers g.row.S.Denot = record { known = g.S.Registry.known; pos = g.S.Positional.pos; OBSERVABLE = g.S.Writer.OBSERVABLE; COUNTS = g.S.Writer.COUNTS; contents = g.S.Writer.contents; failures = g.S.Writer.failures; last_error = g.S.Writer.last_error } in
     let q = sized node_shape in
     let wholes = table_of c.args.wholes.now in
@@ -253,12 +293,12 @@ serialize_whole-serialize_one_each-written-requires-clause-state g t c =
     let mid = c.start_whole.new.self in
     let u : Untouched q (λ y. 1) k w m x old mid = record { contents = c.start_whole.ensures.contents; pos = c.start_whole.ensures.pos; failures = c.start_whole.ensures.failures } in
     let key : key_of_number c.args.number ≡ k = ap key_of_number (sym (number_is c.args.wholes.now c.requires.table c.args.number c.requires.within)) in
-    let starts : Starts (m.known old) (m.known mid) k unmet = subst (λ n. Starts (m.known old) (m.known mid) n unmet) key (subst (λ s. Starts (m.known old) (m.known mid) (key_of_number c.args.number) (progress_of s)) c.in-Ok-Started.field-0-is c.in-Ok-Started.ensures.starts) in
+    let starts : Starts (m.known old) (m.known mid) k unmet = subst (λ n. Starts (m.known old) (m.known mid) n unmet) key (subst (λ s. Starts (m.known old) (m.known mid) (key_of_number c.args.number) (progress_of s)) c.in-Started.is c.in_ok-start_whole.ensures.starts) in
     let was = c.requires.state in
     record { state = with_begun k was.state; is_at = at_then q (λ y. 1) k w m x old mid u was.state was.is_at starts }
 
-pub serialize_whole-serialize_one_each-written-requires-clause-takes : goal.serialize_whole-serialize_one_each-written-requires-clause-takes
-serialize_whole-serialize_one_each-written-requires-clause-takes g t c = λ x s element room state.
+pub serialize_whole-serialize_one_each-requires-clause-takes : goal.serialize_whole-serialize_one_each-requires-clause-takes
+serialize_whole-serialize_one_each-requires-clause-takes g t c = λ x s element room state.
     let is = only_element _ x.now element in
     let same : node_tree (table_in x.now) x.now.node.now ≡ node_tree (table_of c.args.wholes.now) c.index-wholes-number.result = ap (λ (y : NodeIn). node_tree (table_in y) y.node.now) is in
     let table : IsTable (table_in x.now) = subst (λ (y : NodeIn). IsTable (table_in y)) (sym is) c.requires.table in
@@ -267,8 +307,8 @@ serialize_whole-serialize_one_each-written-requires-clause-takes g t c = λ x s 
     let deep = ap depth (entry_is c.args.wholes.now c.requires.table c.args.number c.index-wholes-number.result c.requires.within c.index-wholes-number.is) in
     (search (rules, arith, deep), ((λ life among. among), (same, (table, (known, (room, state))))))
 
-pub serialize_whole-returns-in-Err-written : goal.serialize_whole-returns-in-Err-written
-serialize_whole-returns-in-Err-written g t c = λ st at.
+pub serialize_whole-returns-in_err-pos : goal.serialize_whole-returns-in_err-pos
+serialize_whole-returns-in_err-pos g t c = λ st at.
     let m : WriterMembers g.row.S.Denot = record { known = g.S.Registry.known; pos = g.S.Positional.pos; OBSERVABLE = g.S.Writer.OBSERVABLE; COUNTS = g.S.Writer.COUNTS; contents = g.S.Writer.contents; failures = g.S.Writer.failures; last_error = g.S.Writer.last_error } in
     let q = sized node_shape in
     let wholes = table_of c.args.wholes.now in
@@ -279,14 +319,15 @@ serialize_whole-returns-in-Err-written g t c = λ st at.
     let mid = c.start_whole.new.self in
     let u : Untouched q (λ y. 1) k w m x old mid = record { contents = c.start_whole.ensures.contents; pos = c.start_whole.ensures.pos; failures = c.start_whole.ensures.failures } in
     let key : key_of_number c.args.number ≡ k = ap key_of_number (sym (number_is c.args.wholes.now c.requires.table c.args.number c.requires.within)) in
-    let starts : Starts (m.known old) (m.known mid) k unmet = subst (λ n. Starts (m.known old) (m.known mid) n unmet) key (subst (λ s. Starts (m.known old) (m.known mid) (key_of_number c.args.number) (progress_of s)) c.in-Ok-Started.field-0-is c.in-Ok-Started.ensures.starts) in
+    let starts : Starts (m.known old) (m.known mid) k unmet = subst (λ n. Starts (m.known old) (m.known mid) n unmet) key (subst (λ s. Starts (m.known old) (m.known mid) (key_of_number c.args.number) (progress_of s)) c.in-Started.is c.in_ok-start_whole.ensures.starts) in
     let there = entry_is c.args.wholes.now c.requires.table c.args.number c.index-wholes-number.result c.requires.within c.index-wholes-number.is in
-    let mid1 = c.serialize_one_each-written.new.serializer in
-    stopped_in_data q (λ y. 1) k w m x old mid u st at starts mid1 c.in-Err-written.e
-    (box_written wholes m (node_tree wholes c.index-wholes-number.result) x mid mid1 (Err c.in-Err-written.e) there c.in-Err-written.ensures (with_begun k st) (at_then q (λ y. 1) k w m x old mid u st at starts))
+    let mid1 = c.serialize_one_each.new.serializer in
+    let is : c.from_residual-in_err-pos.result ≡ Err c.in_err-pos.field-0.0 = search rules in
+    rw is (stopped_in_data q (λ y. 1) k w m x old mid u st at starts mid1 c.in_err-pos.field-0.0
+    (box_written wholes m (node_tree wholes c.index-wholes-number.result) x mid mid1 (Err c.in_err-pos.field-0.0) there c.in_err-pos.ensures (with_begun k st) (at_then q (λ y. 1) k w m x old mid u st at starts)))
 
-pub serialize_whole-returns-in-Ok-finish_whole : goal.serialize_whole-returns-in-Ok-finish_whole
-serialize_whole-returns-in-Ok-finish_whole g t c = λ st at.
+pub serialize_whole-returns : goal.serialize_whole-returns
+serialize_whole-returns g t c = λ st at.
     let m : WriterMembers g.row.S.Denot = record { known = g.S.Registry.known; pos = g.S.Positional.pos; OBSERVABLE = g.S.Writer.OBSERVABLE; COUNTS = g.S.Writer.COUNTS; contents = g.S.Writer.contents; failures = g.S.Writer.failures; last_error = g.S.Writer.last_error } in
     let q = sized node_shape in
     let wholes = table_of c.args.wholes.now in
@@ -297,20 +338,20 @@ serialize_whole-returns-in-Ok-finish_whole g t c = λ st at.
     let mid = c.start_whole.new.self in
     let u : Untouched q (λ y. 1) k w m x old mid = record { contents = c.start_whole.ensures.contents; pos = c.start_whole.ensures.pos; failures = c.start_whole.ensures.failures } in
     let key : key_of_number c.args.number ≡ k = ap key_of_number (sym (number_is c.args.wholes.now c.requires.table c.args.number c.requires.within)) in
-    let starts : Starts (m.known old) (m.known mid) k unmet = subst (λ n. Starts (m.known old) (m.known mid) n unmet) key (subst (λ s. Starts (m.known old) (m.known mid) (key_of_number c.args.number) (progress_of s)) c.in-Ok-Started.field-0-is c.in-Ok-Started.ensures.starts) in
+    let starts : Starts (m.known old) (m.known mid) k unmet = subst (λ n. Starts (m.known old) (m.known mid) n unmet) key (subst (λ s. Starts (m.known old) (m.known mid) (key_of_number c.args.number) (progress_of s)) c.in-Started.is c.in_ok-start_whole.ensures.starts) in
     let there = entry_is c.args.wholes.now c.requires.table c.args.number c.index-wholes-number.result c.requires.within c.index-wholes-number.is in
-    let mid1 = c.serialize_one_each-written.new.serializer in
+    let mid1 = c.serialize_one_each.new.serializer in
     let new = c.finish_whole.new.self in
-    let pos = c.in-Ok.pos in
-    let done = box_written wholes m (node_tree wholes c.index-wholes-number.result) x mid mid1 (Ok pos) there c.in-Ok.ensures (with_begun k st) (at_then q (λ y. 1) k w m x old mid u st at starts) in
+    let pos = c.in_ok-pos.pos in
+    let done = box_written wholes m (node_tree wholes c.index-wholes-number.result) x mid mid1 (Ok pos) there c.in_ok-pos.ensures (with_begun k st) (at_then q (λ y. 1) k w m x old mid u st at starts) in
     let pad = ap₂ (λ a b. zeros (shared_padding a b)) done.1.0 done.1.2.stands ∙ no_padding wholes x (with_begun k st) done.1.1 in
     let all = filled q (λ y. 1) k w m x old mid u st at starts mid1 pos done.0 done.1.0 done.1.2 mid1 (wrote_none m mid1 _ pad) in
     let v : Untouched q (λ y. 1) k w m x mid1 new = record { contents = c.finish_whole.ensures.contents; pos = c.finish_whole.ensures.pos; failures = c.finish_whole.ensures.failures } in
     finished q (λ y. 1) k w m x old mid u st at starts mid1 new pos done.1.0 done.1.1 all v (Ok tt)
-    (subst (λ n. Finishes (m.known mid1) (m.known new) n pos (Ok tt) (m.known mid1 n)) key c.in-Ok-finish_whole.ensures.finishes)
+    (subst (λ n. Finishes (m.known mid1) (m.known new) n pos (Ok tt) (m.known mid1 n)) key c.in_ok-finish_whole.ensures.finishes)
 
-pub serialize_whole-returns-in-Err-finish_whole : goal.serialize_whole-returns-in-Err-finish_whole
-serialize_whole-returns-in-Err-finish_whole g t c = λ st at.
+pub serialize_whole-returns-in_err-finish_whole : goal.serialize_whole-returns-in_err-finish_whole
+serialize_whole-returns-in_err-finish_whole g t c = λ st at.
     let m : WriterMembers g.row.S.Denot = record { known = g.S.Registry.known; pos = g.S.Positional.pos; OBSERVABLE = g.S.Writer.OBSERVABLE; COUNTS = g.S.Writer.COUNTS; contents = g.S.Writer.contents; failures = g.S.Writer.failures; last_error = g.S.Writer.last_error } in
     let q = sized node_shape in
     let wholes = table_of c.args.wholes.now in
@@ -321,14 +362,15 @@ serialize_whole-returns-in-Err-finish_whole g t c = λ st at.
     let mid = c.start_whole.new.self in
     let u : Untouched q (λ y. 1) k w m x old mid = record { contents = c.start_whole.ensures.contents; pos = c.start_whole.ensures.pos; failures = c.start_whole.ensures.failures } in
     let key : key_of_number c.args.number ≡ k = ap key_of_number (sym (number_is c.args.wholes.now c.requires.table c.args.number c.requires.within)) in
-    let starts : Starts (m.known old) (m.known mid) k unmet = subst (λ n. Starts (m.known old) (m.known mid) n unmet) key (subst (λ s. Starts (m.known old) (m.known mid) (key_of_number c.args.number) (progress_of s)) c.in-Ok-Started.field-0-is c.in-Ok-Started.ensures.starts) in
+    let starts : Starts (m.known old) (m.known mid) k unmet = subst (λ n. Starts (m.known old) (m.known mid) n unmet) key (subst (λ s. Starts (m.known old) (m.known mid) (key_of_number c.args.number) (progress_of s)) c.in-Started.is c.in_ok-start_whole.ensures.starts) in
     let there = entry_is c.args.wholes.now c.requires.table c.args.number c.index-wholes-number.result c.requires.within c.index-wholes-number.is in
-    let mid1 = c.serialize_one_each-written.new.serializer in
+    let mid1 = c.serialize_one_each.new.serializer in
     let new = c.finish_whole.new.self in
-    let pos = c.in-Ok.pos in
-    let done = box_written wholes m (node_tree wholes c.index-wholes-number.result) x mid mid1 (Ok pos) there c.in-Ok.ensures (with_begun k st) (at_then q (λ y. 1) k w m x old mid u st at starts) in
+    let pos = c.in_ok-pos.pos in
+    let done = box_written wholes m (node_tree wholes c.index-wholes-number.result) x mid mid1 (Ok pos) there c.in_ok-pos.ensures (with_begun k st) (at_then q (λ y. 1) k w m x old mid u st at starts) in
     let pad = ap₂ (λ a b. zeros (shared_padding a b)) done.1.0 done.1.2.stands ∙ no_padding wholes x (with_begun k st) done.1.1 in
     let all = filled q (λ y. 1) k w m x old mid u st at starts mid1 pos done.0 done.1.0 done.1.2 mid1 (wrote_none m mid1 _ pad) in
     let v : Untouched q (λ y. 1) k w m x mid1 new = record { contents = c.finish_whole.ensures.contents; pos = c.finish_whole.ensures.pos; failures = c.finish_whole.ensures.failures } in
-    finished q (λ y. 1) k w m x old mid u st at starts mid1 new pos done.1.0 done.1.1 all v (Err c.in-Err-finish_whole.e)
-    (subst (λ n. Finishes (m.known mid1) (m.known new) n pos (Err c.in-Err-finish_whole.e) (m.known mid1 n)) key c.in-Err-finish_whole.ensures.finishes)
+    let is : c.from_residual-in_err-finish_whole.result ≡ Err c.in_err-finish_whole.field-0.0 = search rules in
+    rw is (finished q (λ y. 1) k w m x old mid u st at starts mid1 new pos done.1.0 done.1.1 all v (Err c.in_err-finish_whole.field-0.0)
+    (subst (λ n. Finishes (m.known mid1) (m.known new) n pos (Err c.in_err-finish_whole.field-0.0) (m.known mid1 n)) key c.in_err-finish_whole.ensures.finishes))
