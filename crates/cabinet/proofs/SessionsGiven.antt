@@ -1,9 +1,10 @@
 -- The bytes that were given of an input, and the lines in them.
-use Rattle.std.proofs.Common.{◌≡◌, ℕ, ◌+◌, ◌-◌, ◌<◌, ◌≤◌, ◌==◌, suc, zero, Bool, true, false, cond, List, [], ◌∷◌, ◌++◌, length, take, drop, refl, sym, ap, ◌∙◌, append_assoc, append-nil, length-append, length-drop, arith, eqb-true, Some, None, not, ltb, ltb-false, get_or}
+use Rattle.std.proofs.Common.{◌≡◌, ℕ, ◌+◌, ◌-◌, ◌<◌, ◌==◌, suc, zero, Bool, true, false, cond, List, [], ◌∷◌, ◌++◌, length, take, drop, refl, sym, ap, ◌∙◌, append_assoc, append-nil, length-append, length-drop, arith, eqb-true, Some, None, get_or}
 use Rattle.std.proofs.lemmas.List.{take-append-drop, take_all, drop_more}
 use Rattle.std.proofs.lemmas.List.Quantifiers.{position-Some}
-use Rattle.std.proofs.lemmas.List.Sums.{sum_by-cons, sum_by-append, sum_by_push, prefix_len-le-length}
-use Rattle.std.specs.List.{position, prefix_len}
+use Rattle.std.proofs.lemmas.List.Sums.{sum_by-cons, sum_by-append, sum_by_push}
+use Rattle.std.specs.List.{position}
+use Rattle.cabinet_text_bytes.proofs.Positions.{position-None}
 use Rattle.cabinet.specs.Session.{lines_of, onto_first}
 use Rattle.cabinet.specs.Steps.{newlines, line_begun, begun_in}
 
@@ -128,23 +129,9 @@ newline_at bytes end e =
       sym (take-append-drop end bytes) ∙ ap (λ l. take end bytes ++ l) (drop_more bytes end 0 p.0 ∙ ap (λ b. b ∷ drop (end + 1) bytes) ten),
     )
 
-all_other : (bytes : List ℕ) → prefix_len (λ b. not (b == 10)) bytes ≡ length bytes → newlines bytes ≡ 0
-all_other [] h = refl
-all_other (b ∷ bs) h =
-    elim (b == 10) as (λ t. (b == 10) ≡ t → cond (not t) (1 + prefix_len (λ c. not (c == 10)) bs) 0 ≡ suc (length bs) → newlines (b ∷ bs) ≡ 0) [
-      | true ↦ λ e k. absurd (omega arith)
-      | false ↦ λ e k. let none : one_at b ≡ 0 = rw e refl in omega (arith, newlines-cons b bs, all_other bs (omega arith))
-    ] refl h
-
-no_position : (i m : ℕ) → i ≤ m → cond (ltb i m) (Some i) None ≡ None → i ≡ m
-no_position i m l e =
-    elim (ltb i m) as (λ t. ltb i m ≡ t → cond t (Some i) None ≡ None → i ≡ m) [
-      | true ↦ λ h k. absurd (cc)
-      | false ↦ λ h k. let over : m ≤ i = ltb-false i m h in omega arith
-    ] refl e
-
 pub no_newline : (bytes : List ℕ) → position (λ b. b == 10) bytes ≡ None → newlines bytes ≡ 0
-no_newline bytes e = all_other bytes (no_position _ _ (prefix_len-le-length (λ b. not (b == 10)) bytes) e)
+no_newline bytes e =
+    ap newlines (sym (take_all (length bytes) bytes (omega arith))) ∙ none_before bytes (length bytes) (position-None (λ b. b == 10) bytes 0 e)
 
 -- the bytes after it, as a slice of the piece
 abbrev pub behind : ℕ → List ℕ → List ℕ

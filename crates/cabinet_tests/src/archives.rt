@@ -158,7 +158,11 @@ pub fn doubled(alloc: Global, count: usize) -> Result<Vec<u8>, AllocError> {
 
 /// Returns a list of a whole of 61 options, one in the other, and of `around` options, one in the other, that have it again.
 /// `offset` is the low byte of the first element's offset.
-pub fn behind(alloc: Global, around: usize, offset: u8) -> Result<Vec<u8>, AllocError> {
+pub fn whole_again_in_options(
+    alloc: Global,
+    around: usize,
+    offset: u8,
+) -> Result<Vec<u8>, AllocError> {
     let mut bytes = Vec::from_slice(alloc, ONE)?;
     for _ in 0..61 {
         bytes.extend_from_slice(OPTION_OF_IT)?;

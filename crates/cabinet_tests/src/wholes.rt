@@ -1,5 +1,5 @@
 //! Tests of wholes that lie in one another: by each scan they are opened or refused, answered, loaded and saved again.
-use crate::archives::{WHOLES_BY_PLACE, behind, chain, doubled};
+use crate::archives::{WHOLES_BY_PLACE, chain, doubled, whole_again_in_options};
 use cabinet::{
     Document, Group1, Group8, Group16, Kind, Leaf, Line, OpenRefusal, Scan, SetAnswer, Step,
     check_scanned, open_scanned, read_line, read_text, to_bytes, write_text,
@@ -27,7 +27,7 @@ fn a_later_place_of_a_whole_is_too_deep_where_65_containers_lie_in_one_another(
         (2, 0xb4, Err(OpenRefusal::TooDeep)),
         (3, 0x9c, Err(OpenRefusal::TooDeep)),
     ] {
-        let archive = behind(rt.alloc(), around, offset)?;
+        let archive = whole_again_in_options(rt.alloc(), around, offset)?;
         assert!(rt; outcomes(rt.alloc(), &archive) == [outcome; 3]);
     }
     assert!(rt; outcomes(rt.alloc(), &chain(rt.alloc(), 64)?) == [Ok(()); 3]);

@@ -1,5 +1,5 @@
 //! Carrying out and answering the lines of an input.
-ghost use Rattle.std.specs.Prelude.{◌≡◌, ◌≢◌, ◌+◌, ◌-◌, ◌^◌, ◌<◌, ◌≤◌, ◌==◌, [], ◌∷◌, length, Some, IfOk, IfErr, OnOk, option_map, position};
+ghost use Rattle.std.specs.Prelude.{◌≡◌, ◌≢◌, ◌+◌, ◌-◌, ◌^◌, ◌<◌, ◌≤◌, [], ◌∷◌, length, Some, IfOk, IfErr, OnOk, option_map};
 ghost use Rattle.cabinet_text_grammar.specs.Tree.{Tree};
 ghost use Rattle.cabinet_text_grammar.specs.Line.{Says};
 ghost use Rattle.cabinet_text_grammar.specs.Answering.{reply};
@@ -17,6 +17,7 @@ use super::{Count, RunCause};
 use crate::opened::Opened;
 use archive_hash_probing::Scan;
 use archive_shape_layout::{Error, Writer};
+use cabinet_text_bytes::newline_in;
 use cabinet_text_nodes::{Line, LineRefusal, SetAnswer, write_bad, write_outcome};
 use cabinet_text_reading::read_line;
 use std::alloc::{AllocError, Global};
@@ -159,13 +160,6 @@ fn end_line<G: Scan, W: Writer>(
     );
     begun.line.clear();
     answered
-}
-
-/// Returns the index of the first newline.
-fn newline_in(bytes: &[u8]) -> Option<usize>
-    ensures { result ≡ position (λ b. b == 10) bytes.now }
-{
-    bytes.iter().position(|byte| *byte == b'\n')
 }
 
 /// Takes all of a piece of the input.
