@@ -41,12 +41,12 @@ fn finds(alloc: Global, bytes: &[u8], key: u32, len: usize, has: bool) -> bool {
         && ArchivedBTreeSet::contains_key(root, &key) == has
 }
 
-/// Returns the number of keys of a set and the first of them, or `None` if it has none.
-fn keys_from_the_first(alloc: Global, bytes: &[u8]) -> Option<(usize, u32)> {
+/// Returns the number of keys of a set and the position of the first of them, or `None` if it has none.
+fn keys_from_the_first(alloc: Global, bytes: &[u8]) -> Option<(usize, usize)> {
     let mut keys: SetIter<'_, ArchivedU32> =
         ArchivedBTreeSet::iter(root_of::<Numbers>(alloc, bytes)?);
     let len = keys.len();
-    Some((len, native_of(keys.next()?)))
+    Some((len, keys.next()?.pos()))
 }
 
 /// Sets by their bytes, keys, the number of keys, and whether the sets have the keys.
@@ -161,7 +161,7 @@ fn set_is_resolved(rt: HostRuntime) {
 fn keys_are_iterated_over_from_the_first(rt: HostRuntime) {
     assert!(rt;
         keys_from_the_first(rt.alloc(), NONE).is_none()
-            && keys_from_the_first(rt.alloc(), FOUR) == Some((4, 10))
-            && keys_from_the_first(rt.alloc(), SIX) == Some((6, 1))
+            && keys_from_the_first(rt.alloc(), FOUR) == Some((4, 4))
+            && keys_from_the_first(rt.alloc(), SIX) == Some((6, 4))
     );
 }
