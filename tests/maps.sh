@@ -735,6 +735,30 @@ END
     finish
 done
 
+# ---- a number of characters of paths
+
+# cut MOST PATH: the path of the first line, of which that many characters are shown
+cut_path() {
+    built "ordered 1\n'a\xc3\xa9\\\\sb\nlist 1\nsome\nint 5"
+    name="$name, of whose paths at most $1 characters are shown"
+    show --map --lines 1 --path "$1" a.cab
+    [ "$(head -n 1 output)" = "         0         24 node     $2" ] || differs "it printed $(head -c 200 output | tr '\n' '|')"
+    ends 0 ''
+    finish
+}
+
+cut_path 0 '..'
+cut_path 1 "'.."
+cut_path 2 "'a.."
+cut_path 3 "'aé.."
+cut_path 4 "'aé\\.."
+cut_path 5 "'aé\\s.."
+cut_path 6 "'aé\\sb.."
+cut_path 7 "'aé\\sb .."
+cut_path 8 "'aé\\sb #.."
+cut_path 9 "'aé\\sb #0"
+cut_path 18446744073709551615 "'aé\\sb #0"
+
 # ---- words and faults
 
 # unmapped STATUS FAULT WORD..: words of cab_show that end with a fault
@@ -766,8 +790,19 @@ unmapped 2 "$show_usage" --map --line 5 a.cab
 unmapped 2 "$show_usage" --lines 5 --map a.cab
 unmapped 2 "$show_usage" --map a.cab --lines 5
 unmapped 2 "$show_usage" --map --map --lines 5 a.cab
+unmapped 2 "$show_usage" --path 5 a.cab
+unmapped 2 "$show_usage" --map --path 5
+unmapped 2 "$show_usage" --map --path a.cab
+unmapped 2 "$show_usage" --map --path 5 --lines 5 a.cab
+unmapped 2 "$show_usage" --map --lines 5 --path 5
+unmapped 2 "$show_usage" --map --lines 5 --lines 5 a.cab
+unmapped 2 "$show_usage" --map --path 5 --path 5 a.cab
+unmapped 2 "$show_usage" --map --lines 5 --path 5 a.cab more
+unmapped 1 'cab: cannot read b.cab\n' --map --path 5 b.cab
+unmapped 1 'cab: cannot read b.cab\n' --map --lines 5 --path 5 b.cab
 for most in '' 05 00 -1 +1 5.0 x ' 5' '5 ' 18446744073709551616; do
     unmapped 2 "$show_usage" --map --lines "$most" a.cab
+    unmapped 2 "$show_usage" --map --path "$most" a.cab
 done
 unmapped 2 "$show_usage" --map $'\xff.cab'
 
@@ -817,7 +852,7 @@ for output in /dev/full closed; do
     finish
 done
 
-# the check takes none for the document, and the map some for each region
+# the check takes none for the document, and the map none at all
 begin 'a map takes no memory for the document'
 yes none | head -n 1000000 | sed '1i list 1000000' > text
 run build text a.cab
@@ -827,13 +862,13 @@ ended=$?
 ends 0 ''
 finish
 
-begin 'memory is refused for a map'
+begin 'a map takes no memory for the regions'
 { echo list 400000; yes "some\nint 1" | head -n 400000 | sed 's/\\n/\n/'; } > text
 run build text a.cab
-(ulimit -v 45000 && "$show" --map a.cab < input > output 2> errors)
+(ulimit -v 45000 && "$show" --map --lines 1 a.cab < input > output 2> errors)
 ended=$?
-prints ''
-ends 1 'cab: open: OutOfMemory\n'
+[ "$(head -n 2 output)" = $'         0         24 node     #0\n.. and 400001 more' ] || differs "it printed $(head -c 200 output | tr '\n' '|')"
+ends 0 ''
 finish
 
 begin 'the map of a list of 200,000 options'

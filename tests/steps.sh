@@ -38,7 +38,7 @@ mkdir "$work/files"
 cd "$work/files" || exit 1
 
 usage='cab: usage: cab build TEXT ARCHIVE | cab run ARCHIVE\n'
-show_usage='cab_show: usage: cab_show ARCHIVE | cab_show --map [--lines N] ARCHIVE\n'
+show_usage='cab_show: usage: cab_show ARCHIVE | cab_show --map [--lines N] [--path N] ARCHIVE\n'
 passed=0
 failed=0
 

@@ -16,5 +16,5 @@ EndsShowBy path _ = ⊥
 
 -- the usage of this program, and for every other fault the line of `cab`
 abbrev pub spelled_report : Fault → List ℕ
-spelled_report Usage = codes "cab_show: usage: cab_show ARCHIVE | cab_show --map [--lines N] ARCHIVE\n"
+spelled_report Usage = codes "cab_show: usage: cab_show ARCHIVE | cab_show --map [--lines N] [--path N] ARCHIVE\n"
 spelled_report fault = spelled_fault fault

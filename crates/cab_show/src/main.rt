@@ -12,7 +12,7 @@ use std::process::ExitCode;
 use std::rt::{Env, Files};
 
 /// The places of the path of the archive among the words: it is the last one of each command.
-const PATHS: [usize; 3] = [4, 2, 1];
+const PATHS: [usize; 4] = [6, 4, 2, 1];
 
 /// Returns the place of the path of the archive.
 fn place_of_path<R: Env>(rt: &R) -> usize {
@@ -29,8 +29,13 @@ fn place_of_path<R: Env>(rt: &R) -> usize {
 fn carry_out<R: Env + Files<File = File> + Print + AllocGlobal>(rt: &R) -> Result<(), Fault> {
     match parse_show(words(rt, place_of_path(rt))?) {
         Some(ShowCommand::Text { archive }) => show_archive(rt, archive),
-        Some(ShowCommand::Map { archive }) => map_archive(rt, archive, None),
-        Some(ShowCommand::MapLines { lines, archive }) => map_archive(rt, archive, Some(lines)),
+        Some(
+            ShowCommand::Map {
+                lines,
+                characters,
+                archive,
+            },
+        ) => map_archive(rt, archive, lines, characters),
         None => Err(Fault::Usage),
     }
 }

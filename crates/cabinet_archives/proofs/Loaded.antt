@@ -26,6 +26,10 @@ use Rattle.cabinet_archives.proofs.Stepping.{nothing_is}
 use Rattle.cabinet_archives.proofs.LoadedTrees.{AreNodesLegal, IsProgress, progress_on, progress_done, wholes_in_trees}
 use Rattle.cabinet_archives.proofs.Ways.{Boxed, counted_there}
 
+-- a value with a tree is there
+pub tree_value : {node : Value → Value} {s : Shape} {knows : Names → Type 0} {bytes : List ℕ} {pos outer : ℕ} → HasTree node s knows bytes pos outer → HasValue s knows bytes pos
+tree_value has = record { value = has.value; held = has.held }
+
 -- ---- containers
 
 container_height : {v w : Value} {t : Tree} {tag : ℕ} → v ≡ tagged_value tag w → 3 < tag → Denotes v t → 0 < height t

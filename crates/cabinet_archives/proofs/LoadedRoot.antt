@@ -2,7 +2,9 @@
 use Rattle.std.proofs.Common.{◌≡◌, ℕ, ◌<◌, ◌^◌, Bor, List, [], ◌∷◌, length, true, false, refl, ap, subst, sym, ◌∙◌, arith}
 use Rattle.std.proofs.Math.Bool.{Bool-set}
 use Rattle.std.proofs.Math.Logic.{∥∥₁_elim, ∥∥₁_map}
+use Rattle.archive_shape_layout.specs.Shape.{Shape}
 use Rattle.archive_shape_layout.specs.Value.{Value}
+use Rattle.archive_shape_layout.specs.Content.{Names}
 use Rattle.archive_shape_layout.proofs.Found.{root_is_found}
 use Rattle.archive_shape_canonical.specs.Canonical.{AreBytes}
 use Rattle.cabinet_text_grammar.specs.Tree.{Tree}
@@ -15,8 +17,11 @@ use Rattle.cabinet_documents.specs.Laws.{AuditDecided, IsAccepted}
 use Rattle.cabinet_documents.specs.Node.{node_shape, node_names, KnowsNode}
 use Rattle.cabinet_documents.proofs.Deciding.{audit_decides_law}
 use Rattle.cabinet_documents.proofs.Sound.{refused_law}
+use Rattle.cabinet_documents.specs.Denotes.{tagged_value}
+use Rattle.cabinet_archived.specs.Kind.{IsTagged}
 use Rattle.cabinet_archives.specs.Found.{OfDocument}
 use Rattle.cabinet_archives.specs.Loading.{HasTree}
+use Rattle.cabinet_archives.proofs.Loaded.{payload_tree}
 use Rattle.cabinet_archives.proofs.Reached.{root_of, root_there}
 
 module _ (bytes : List ℕ) where
@@ -57,3 +62,9 @@ module _ (bytes : List ℕ) where
 pub tree_as : {x y : Bor (List ℕ)} {pos to outer : ℕ} → x ≡ y → pos ≡ to → HasTree (λ v. v) node_shape KnowsNode y.now to outer → HasTree (λ v. v) node_shape KnowsNode x.now pos outer
 tree_as {y = y} {pos = pos} {outer = outer} e f h =
     subst (λ (b : Bor (List ℕ)). HasTree (λ v. v) node_shape KnowsNode b.now pos outer) (sym e) (subst (λ n. HasTree (λ v. v) node_shape KnowsNode y.now n outer) (sym f) h)
+
+-- the payload of a node
+pub payload_as : {x y : Bor (List ℕ)} {pos tag to outer : ℕ} {s : Shape} {knows : Names → Type 0} → x ≡ y → IsTagged y.now pos tag s knows to
+    → HasTree (λ v. v) node_shape KnowsNode y.now pos outer → HasTree (tagged_value tag) s knows x.now to outer
+payload_as {y = y} {tag = tag} {to = to} {outer = outer} {s = s} {knows = knows} e tagged has =
+    subst (λ (b : Bor (List ℕ)). HasTree (tagged_value tag) s knows b.now to outer) (sym e) (payload_tree y.now tagged has)

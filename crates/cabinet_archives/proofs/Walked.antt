@@ -1,5 +1,6 @@
 -- What a walk of a node finds, by the node's kind, and the faults that it has.
-use Rattle.std.proofs.Common.{◌≡◌, ◌∙◌, ℕ, zero, suc, ◌+◌, ◌<◌, ◌≤◌, true, nat_lt, ◌==◌, List, [], ◌++◌, slice_index, MatchBool, refl, sym, ap, subst, arith, append-nil}
+use Rattle.std.proofs.Common.{◌≡◌, ◌≢◌, ◌∙◌, ◌⊎◌, inl, inr, ℕ, zero, suc, ◌+◌, ◌<◌, ◌≤◌, Bool, true, false, nat_lt, ◌==◌, List, [], ◌++◌, slice_index, MatchBool, refl, sym, ap, subst, arith, append-nil}
+use Rattle.std.proofs.lemmas.Bool.Decides.{eqb_tells}
 use Rattle.std.specs.List.{flat_map}
 use Rattle.archive_shape_layout.specs.Bytes.{window, word_at}
 use Rattle.archive_shape_layout.specs.Shape.{Shape}
@@ -78,7 +79,7 @@ module _ (bytes : List ℕ) where
 
   -- ---- options
 
-  not_none : (pos : ℕ) → HasValue (option Boxed) KnowsNode bytes pos → IsSomeAt Boxed KnowsNode bytes pos → slice_index bytes pos ≡ 0 → ⊥
+  pub not_none : (pos : ℕ) → HasValue (option Boxed) KnowsNode bytes pos → IsSomeAt Boxed KnowsNode bytes pos → slice_index bytes pos ≡ 0 → ⊥
   not_none pos has some e =
       some_is_not_none Boxed KnowsNode bytes pos 4 refl (omega arith) (has_some has some)
       (subst (λ n. MatchBool (n == 0) (IsNoneAt Boxed KnowsNode bytes pos) (IsSomeAt Boxed KnowsNode bytes pos)) e (option_by_tag Boxed KnowsNode bytes pos 4 refl (omega arith)))
@@ -87,6 +88,15 @@ module _ (bytes : List ℕ) where
   not_some pos has none e =
       some_is_not_none Boxed KnowsNode bytes pos 4 refl (omega arith) (has_some has
       (subst (λ n. MatchBool (n == 0) (IsNoneAt Boxed KnowsNode bytes pos) (IsSomeAt Boxed KnowsNode bytes pos)) e (option_by_tag Boxed KnowsNode bytes pos 4 refl (omega arith)))) none
+
+  pub none_tag : (pos : ℕ) → HasValue (option Boxed) KnowsNode bytes pos → IsNoneAt Boxed KnowsNode bytes pos → slice_index bytes pos ≡ 0
+  none_tag pos has none = by (slice_index bytes pos == 0) (eqb_tells (slice_index bytes pos) 0) (option_by_tag Boxed KnowsNode bytes pos 4 refl (omega arith))
+    where
+      by : (b : Bool) → ((b ≡ true) × (slice_index bytes pos ≡ 0)) ⊎ ((b ≡ false) × (slice_index bytes pos ≢ 0))
+          → MatchBool b (IsNoneAt Boxed KnowsNode bytes pos) (IsSomeAt Boxed KnowsNode bytes pos) → slice_index bytes pos ≡ 0
+      by true (inl e) is = e.1
+      by true (inr e) is = absurd (cc)
+      by false e some = absurd (some_is_not_none Boxed KnowsNode bytes pos 4 refl (omega arith) (has_some has some) none)
 
   -- a part in a container: the walk has the container's own fault, and then those of the part
   pub record Deeper (depth : ℕ) (p : Part) (walk : List Stop) : Type 0 where
@@ -130,7 +140,7 @@ module _ (bytes : List ℕ) where
     pub faults_are : faults bytes walk ≡ unless (nat_lt depth 64) too_deep ++ flat_map (faults bytes) runs
 
   -- one number of elements
-  one_count : (pos to from len n : ℕ) → HasValue (vector node_shape) KnowsNode bytes pos → IsVecAt node_shape KnowsNode bytes pos to len → IsVecAt node_shape KnowsNode bytes pos from n → len ≡ n
+  pub one_count : (pos to from len n : ℕ) → HasValue (vector node_shape) KnowsNode bytes pos → IsVecAt node_shape KnowsNode bytes pos to len → IsVecAt node_shape KnowsNode bytes pos from n → len ≡ n
   one_count pos to from len n has a b =
       let x = a.value has.value has.held in
       let y = b.value has.value has.held in

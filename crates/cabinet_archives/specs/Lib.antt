@@ -6,6 +6,11 @@ pub mod Kept
 pub mod Keyed
 pub mod Keys
 pub mod Loading
+pub mod MapLaws
+pub mod MapLines
+pub mod MapPaths
+pub mod Mapped
+pub mod Mapping
 pub mod Ordered
 pub mod Putting
 pub mod Refused

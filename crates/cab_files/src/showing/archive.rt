@@ -5,7 +5,7 @@ ghost use Rattle.cabinet_documents.specs.Audit.{IsRefusedFor};
 ghost use Rattle.cab_files.specs.Showing.{EndsShowBy};
 
 use crate::ending::standard_output;
-use crate::mapping::write_map;
+use crate::mapping::write_checked_map;
 use crate::output::OutputStream;
 use crate::reading::read;
 use archive_shape_layout::{Error, Writer};
@@ -24,8 +24,11 @@ const BUFFER: usize = 65536;
 enum View {
     /// The text of its document.
     Text,
-    /// The map of its regions, with at most so many lines.
-    Map(Option<u64>),
+    /// The map of its regions, with at most so many lines, and at most so many characters of each path.
+    Map {
+        lines: Option<u64>,
+        characters: Option<u64>,
+    },
 }
 
 /// Writes a view of the bytes, which are an archive.
@@ -40,7 +43,9 @@ fn write_view<W: Writer>(
 {
     match view {
         View::Text => write_document(alloc, archive, writer),
-        View::Map(lines) => write_map(alloc, archive, lines, writer),
+        View::Map { lines, characters } => {
+            write_checked_map(alloc, archive, lines, characters, writer)
+        }
     }
 }
 
@@ -89,13 +94,15 @@ pub fn show_archive<R: Files<File = File> + Print + AllocGlobal>(
     show(rt, path, View::Text)
 }
 
-/// Prints the map of an archive file, with at most so many lines of regions.
+/// Prints the map of an archive file, with at most so many lines of regions, and in each at most so many characters of a
+/// path.
 pub fn map_archive<R: Files<File = File> + Print + AllocGlobal>(
     rt: &R,
     path: String,
     lines: Option<u64>,
+    characters: Option<u64>,
 ) -> Result<(), Fault>
     ensures { IfErr result (EndsShowBy path) }
 {
-    show(rt, path, View::Map(lines))
+    show(rt, path, View::Map { lines, characters })
 }

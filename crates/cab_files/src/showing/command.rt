@@ -1,5 +1,5 @@
 //! The words of `cab_show`.
-ghost use Rattle.std.specs.Prelude.{◌≡◌, ℕ, ◌^◌, ◌<◌, codes, map, string_bytes, IfSome, IfNone, MatchOption};
+ghost use Rattle.std.specs.Prelude.{◌≡◌, ℕ, ◌^◌, ◌<◌, [], ◌∷◌, codes, map, string_bytes, IfSome, IfNone, MatchOption};
 ghost use Rattle.std.specs.Fmt.{decimal};
 ghost use Rattle.std.specs.Vec.Iter.{into_iter_items};
 ghost use Rattle.cab_files.specs.ShowWords.{IsShowCommand, show_words_of};
@@ -12,11 +12,15 @@ use std::env::Args;
 #[derive(Debug, Drop)]
 pub enum ShowCommand {
     /// `cab_show ARCHIVE`
-    Text { archive: String },
-    /// `cab_show --map ARCHIVE`
-    Map { archive: String },
-    /// `cab_show --map --lines N ARCHIVE`
-    MapLines { lines: u64, archive: String },
+    Text {
+        archive: String,
+    },
+    /// `cab_show --map [--lines N] [--path N] ARCHIVE`
+    Map {
+        lines: Option<u64>,
+        characters: Option<u64>,
+        archive: String,
+    },
 }
 
 /// Returns the number of lines that two words spell, if they do.
@@ -31,6 +35,71 @@ fn read_lines(word: &str, number: &str) -> Option<u64>
     }
 }
 
+/// Returns the number of characters of paths that two words spell, if they do.
+fn read_characters(word: &str, number: &str) -> Option<u64>
+    ensures { MatchOption result
+        ((n : ℕ) → n < 2 ^ 64 → word.now ≡ codes "--path" → number.now ≡ decimal n → ⊥)
+        (λ n. (word.now ≡ codes "--path") × (number.now ≡ decimal n)) }
+{
+    match word {
+        "--path" => read_count(number.as_bytes()),
+        _ => None,
+    }
+}
+
+/// Returns the command of a map with one number, if the two words before the archive spell one.
+fn with_one(word: &str, number: &str, archive: String) -> Option<ShowCommand>
+    ensures spelled { IfSome result (λ command. show_words_of command ≡ codes "--map" ∷ word.now ∷ number.now ∷ string_bytes archive ∷ []) }
+    ensures other { IfNone result ((command : ShowCommand) → IsShowCommand command
+        → show_words_of command ≡ codes "--map" ∷ word.now ∷ number.now ∷ string_bytes archive ∷ [] → ⊥) }
+{
+    if let Some(lines) = read_lines(word, number) {
+        return Some(ShowCommand::Map {
+            lines: Some(lines),
+            characters: None,
+            archive,
+        });
+    }
+    match read_characters(word, number) {
+        Some(characters) => Some(ShowCommand::Map {
+            lines: None,
+            characters: Some(characters),
+            archive,
+        }),
+        None => None,
+    }
+}
+
+/// Returns the command of a map whose words after `--map` are these, if they spell one.
+fn map_command(second: String, mut words: Args) -> Option<ShowCommand>
+    ensures spelled { IfSome result (λ command. codes "--map" ∷ string_bytes second ∷ map string_bytes (into_iter_items words) ≡ show_words_of command) }
+    ensures other { IfNone result ((command : ShowCommand) → IsShowCommand command
+        → codes "--map" ∷ string_bytes second ∷ map string_bytes (into_iter_items words) ≡ show_words_of command → ⊥) }
+{
+    let Some(third) = words.next() else {
+        return Some(ShowCommand::Map {
+            lines: None,
+            characters: None,
+            archive: second,
+        });
+    };
+    let fourth = words.next()?;
+    let Some(fifth) = words.next() else {
+        return with_one(second.as_str(), third.as_str(), fourth);
+    };
+    let archive = words.next()?;
+    if words.next().is_some() {
+        return None;
+    }
+    let lines = read_lines(second.as_str(), third.as_str())?;
+    let characters = read_characters(fourth.as_str(), fifth.as_str())?;
+    Some(ShowCommand::Map {
+        lines: Some(lines),
+        characters: Some(characters),
+        archive,
+    })
+}
+
 /// Returns the command that words spell, if they spell one. The words do not include the program's name.
 pub fn parse_show(mut words: Args) -> Option<ShowCommand>
     ensures spelled { IfSome result (λ command. map string_bytes (into_iter_items words) ≡ show_words_of command) }
@@ -41,17 +110,8 @@ pub fn parse_show(mut words: Args) -> Option<ShowCommand>
     let Some(second) = words.next() else {
         return Some(ShowCommand::Text { archive: first });
     };
-    let third = words.next();
-    let fourth = words.next();
-    let fifth = words.next();
-    match (first.as_str(), third, fourth, fifth) {
-        ("--map", None, None, None) => Some(ShowCommand::Map { archive: second }),
-        ("--map", Some(number), Some(archive), None) => {
-            match read_lines(second.as_str(), number.as_str()) {
-                Some(lines) => Some(ShowCommand::MapLines { lines, archive }),
-                None => None,
-            }
-        }
+    match first.as_str() {
+        "--map" => map_command(second, words),
         _ => None,
     }
 }

@@ -13,7 +13,7 @@ pub fn report<W: Writer>(fault: &Fault, writer: &mut W) -> Result<(), Error>
 {
     match fault {
         Fault::Usage => writer.write(
-            b"cab_show: usage: cab_show ARCHIVE | cab_show --map [--lines N] ARCHIVE\n",
+            b"cab_show: usage: cab_show ARCHIVE | cab_show --map [--lines N] [--path N] ARCHIVE\n",
         ),
         fault => fault_line(fault, writer),
     }
