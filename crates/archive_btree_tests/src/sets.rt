@@ -43,8 +43,9 @@ fn finds(alloc: Global, bytes: &[u8], key: u32, len: usize, has: bool) -> bool {
 
 /// Returns the number of keys of a set and the position of the first of them, or `None` if it has none.
 fn keys_from_the_first(alloc: Global, bytes: &[u8]) -> Option<(usize, usize)> {
-    let mut keys: SetIter<'_, ArchivedU32> =
-        ArchivedBTreeSet::iter(root_of::<Numbers>(alloc, bytes)?);
+    let mut keys: SetIter<'_, ArchivedU32> = ArchivedBTreeSet::iter(root_of::<Numbers>(
+        alloc, bytes,
+    )?);
     let len = keys.len();
     Some((len, keys.next()?.pos()))
 }
