@@ -34,7 +34,7 @@ fn write_end<W: Writer>(len: usize, tally: &mut Tally, writer: &mut W) -> Result
 
 /// Writes the map of an archive: a line for each region, at most `lines`, with at most `characters` characters of its path,
 /// and a summary. The bytes are those of an archive that was accepted. It takes no memory, and recurses as deep as
-/// containers lie in one another.
+/// containers, and the nodes of search trees in them, lie in one another.
 pub fn write_map<W: Writer>(
     bytes: &[u8],
     lines: Option<u64>,

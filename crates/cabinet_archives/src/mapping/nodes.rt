@@ -353,7 +353,8 @@ fn map_kept<W: Writer>(
     )
 }
 
-/// Maps a node inside `outer` containers. It recurses as deep as containers lie in one another, which are at most 64.
+/// Maps a node inside `outer` containers. It recurses as deep as containers lie in one another, which are at most 64, and in
+/// each ordered map as deep as its search tree, which has at most 32 levels.
 #[cycle(maps)]
 pub(crate) fn map_node<W: Writer>(
     node: Ref<'_, ArchivedNode>,
