@@ -6,7 +6,7 @@ use Rattle.archive_shape_layout.specs.Content.{Part, keys_offset, values_offset,
 use Rattle.archive_shape_layout.specs.Content.Part.{at, node}
 use Rattle.archive_shape_canonical.specs.Settled.{HasItems}
 use Rattle.archive_shape_canonical.specs.Everywhere.{Reaches, reaches_here, reaches_plain, reaches_first, IsAsWritten}
-use Rattle.archive_shape_canonical.proofs.Choosing.{settled_chosen}
+use Rattle.archive_shape_canonical.proofs.Choosing.{items_there}
 use Rattle.archive_shape_canonical.proofs.Reaching.{reaches_on}
 use Rattle.archive_shape_canonical.proofs.Everywhere.{written_everywhere_law}
 use Rattle.archive_btree_layout.specs.Tree.{Tree, Branches}
@@ -29,7 +29,7 @@ written_is_packed_law fit names bytes most k v pos t some w h =
     λ q r. written_everywhere_law fit names bytes w.start w.root w.shape w.value w.regions w.visits q w.archive (reaches_on names bytes w.reached r)
     in
     let s = (all (at pos (tree most k v)) (reaches_here refl)).plain_settled _ _ c in
-    let has : HasItems s.values = settled_chosen fit bytes (at pos (tree most k v)) (node 1 most k v h.root ∷ []) s.values s.settled in
+    let has : HasItems s.values = items_there s.values s.settled in
     let items_some = led_items fit names bytes most k v 1 h.root t h.node s.hold has in
     packed_divided most t some items_some (node_divided fit names bytes most k v 1 h.root t h.node (λ q r. all q (reaches_plain c (reaches_first r))) items_some)
 

@@ -1,6 +1,6 @@
 -- A tree that is read where the root of a canonical archive reaches a node has below each pointer the same number of
 -- items as a packed tree.
-use Rattle.std.proofs.Common.{◌≡◌, ◌∙◌, ℕ, suc, ◌+◌, ◌<◌, ◌≤◌, List, [], ◌∷◌, ◌++◌, length, refl, ap, sym, subst, arith}
+use Rattle.std.proofs.Common.{slice_index, drop, ◌≡◌, ◌∙◌, ℕ, suc, ◌+◌, ◌<◌, ◌≤◌, List, [], ◌∷◌, ◌++◌, length, refl, ap, sym, subst, arith}
 use Rattle.archive_shape_layout.specs.Shape.{Shape, size_of}
 use Rattle.archive_shape_layout.specs.Value.{Value, Values, count_values}
 use Rattle.archive_shape_layout.specs.Value.Value.{natural, integer, boolean, string, group, chosen, counted, back}
@@ -11,7 +11,7 @@ use Rattle.archive_shape_layout.specs.Holds.{Region, Visit, OpenShared, HoldAll}
 use Rattle.archive_shape_canonical.specs.Settled.{Fit, HasItems}
 use Rattle.archive_shape_canonical.specs.Packed.{IsPacked, ArePacked, child_items}
 use Rattle.archive_shape_canonical.specs.Everywhere.{reaches_here, reaches_plain, reaches_claimed, reaches_first, reaches_later, IsAsWritten}
-use Rattle.archive_shape_canonical.proofs.Choosing.{settled_chosen}
+use Rattle.archive_shape_canonical.proofs.Choosing.{node_packed, items_there}
 use Rattle.archive_shape_canonical.proofs.Reaching.{All, AllIn}
 use Rattle.archive_btree_layout.specs.Tree.{Tree, Branches, items, items_of, entries_of}
 use Rattle.archive_btree_layout.specs.Reading.{Place, places, HasNode, HasBranches, HasChild}
@@ -83,7 +83,7 @@ module _ (fit : Fit) (names : Names) (bytes : List ℕ) (most : ℕ) (k v : Shap
         let es = entries most k key v place in
         let c = inner_content names bytes most k v level pos low kind in
         let s = (all (node level most k v pos) (reaches_here refl)).claimed_settled _ _ _ c in
-        let packed : IsPacked most 1 s.values = subst (λ z. IsPacked most z s.values) (kind_of bytes pos ∙ kind) (settled_chosen fit bytes (node level most k v pos) (children (suc most) (suc level) most k v link ++ es) s.values s.settled) in
+        let packed : IsPacked most 1 s.values = subst (λ z. IsPacked most z s.values) (kind_of bytes pos ∙ kind) (node_packed most (slice_index (drop pos bytes) 0) s.values s.settled) in
         let more : most + 1 ≡ suc most = omega arith in
         let inner_packed = subst (λ z. (most < count_values (weave (first_values z s.values) (other_values z s.values))) × ArePacked most (count_values (weave (first_values z s.values) (other_values z s.values))) 0 (first_values z s.values)) more packed in
         let count = branches_counted names bytes most k v most (suc level) link key place bs d es s.hold (other_values (suc most) s.values) (entries_counted names bytes most k v (suc level) link key place s.hold) in
@@ -125,5 +125,5 @@ module _ (fit : Fit) (names : Names) (bytes : List ℕ) (most : ℕ) (k v : Shap
     child_divided level link t (a_child {pos = pos} a b n) all =
         let c = child_content_of names bytes most k v level link pos t a b n in
         let s = (all (child level most k v link) (reaches_here refl)).plain_settled _ _ c in
-        let has : HasItems s.values = settled_chosen fit bytes (child level most k v link) (node level most k v pos ∷ []) s.values s.settled in
+        let has : HasItems s.values = items_there s.values s.settled in
         node_divided level pos t n (λ q r. all q (reaches_plain c (reaches_first r))) (led_items level pos t n s.hold has)

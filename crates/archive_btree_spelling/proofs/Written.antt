@@ -1,5 +1,5 @@
 -- What is written of pairs has a packed tree of them.
-use Rattle.std.proofs.Common.{◌≡◌, ◌∙◌, ℕ, List, [], ◌∷◌, length, Some, refl, ap, sym, subst, arith}
+use Rattle.std.proofs.Common.{false, ◌≡◌, ◌∙◌, ℕ, List, [], ◌∷◌, length, Some, refl, ap, sym, subst, arith}
 use Rattle.archive_shape_layout.specs.Shape.{Shape}
 use Rattle.archive_shape_layout.specs.Shape.Shape.{tree}
 use Rattle.archive_shape_layout.specs.Shape.Pointee.{sized}
@@ -106,7 +106,7 @@ map_is_packed {A} {B} {R} {Q} most k v keys vals fit names pairs bytes some item
 
 -- tables are no part of these maps, so any fit will do
 no_fit : Fit
-no_fit = record { capacity = λ n. n; table_controls = λ vs. []; table_items = λ vs. vs; map_controls = λ vs. []; map_numbers = λ vs. [] }
+no_fit = record { binds = false; capacity = λ n. n; table_controls = λ vs. []; table_items = λ vs. vs; map_controls = λ vs. []; map_numbers = λ vs. [] }
 
 pub maps_are_packed_law : MapsArePacked
 maps_are_packed_law names xs bytes some f e =

@@ -1,5 +1,5 @@
 -- What is written as a root is the one archive of its value.
-use Rattle.std.proofs.Common.{◌≡◌, ℕ, ◌+◌, ◌-◌, ◌%◌, ◌*◌, ◌<◌, List, [], ◌∷◌, length, sym, ap, subst, ◌∙◌, arith, slice_index, Some, inr, ⊎_elim}
+use Rattle.std.proofs.Common.{true, ◌≡◌, ℕ, ◌+◌, ◌-◌, ◌%◌, ◌*◌, ◌<◌, List, [], ◌∷◌, length, sym, ap, subst, ◌∙◌, arith, slice_index, Some, inr, ⊎_elim}
 use Rattle.std.proofs.lemmas.Bool.{cases_lt}
 use Rattle.std.proofs.lemmas.List.{take_all, get_or_past}
 use Rattle.archive_shape_layout.specs.Shape.{Shape, size_of, align_of}
@@ -73,9 +73,9 @@ is_written fit s knows w x names keys bytes spells k n one f e =
     }
 
 pub written_once_law : WrittenOnce
-written_once_law fit names bytes others s v u a b e = one_archive_law fit names bytes others 0 _ _ s v u _ _ _ _ a.canonical b.canonical e
+written_once_law fit names bytes others s v u binds a b e = one_archive_law fit names bytes others 0 _ _ s v u _ _ _ _ binds a.canonical b.canonical e
 
 -- any archive of the value that was written is the bytes that were written
 pub written_once : {A R : Type 0} (s : Shape) (w : Spelling A R) (x : A) (fit : Fit) (names : Names) (bytes others : List ℕ) (v : Value)
-    → IsWritten s w x fit names bytes → IsArchive fit names others s v → erased v ≡ w.plain x → bytes ≡ others
-written_once s w x fit names bytes others v h a e = written_once_law fit names bytes others s (w.value x initial) v h.archive a (h.plain ∙ sym e)
+    → fit.binds ≡ true → IsWritten s w x fit names bytes → IsArchive fit names others s v → erased v ≡ w.plain x → bytes ≡ others
+written_once s w x fit names bytes others v binds h a e = written_once_law fit names bytes others s (w.value x initial) v binds h.archive a (h.plain ∙ sym e)

@@ -1,5 +1,5 @@
 -- The laws of what is written, as statements.
-use Rattle.std.specs.Prelude.{◌≡◌, ℕ, List, [], ◌∷◌, Option, codes, ⊤}
+use Rattle.std.specs.Prelude.{◌≡◌, ℕ, true, List, [], ◌∷◌, Option, codes, ⊤}
 use Rattle.archive_shape_layout.specs.Shape.{Shape}
 use Rattle.archive_shape_layout.specs.Shape.Shape.{text}
 use Rattle.archive_shape_layout.specs.Value.{Value}
@@ -27,6 +27,7 @@ LeafSpells A = (fit : Fit) (s : Shape) (bytes_of : A → List ℕ) (value_of : A
 abbrev pub WrittenOnce : Type 0
 WrittenOnce =
     (fit : Fit) (names : Names) (bytes others : List ℕ) (s : Shape) (v u : Value)
+    → fit.binds ≡ true
     → IsArchive fit names bytes s v
     → IsArchive fit names others s u
     → erased v ≡ erased u

@@ -318,5 +318,5 @@ module _ {A B R P : Type 0} (k v : Shape) (knows others : Names → Type 0) (key
       map_answers (e ∷ es) m =
           let pos = root_position (length bytes) (table (tuple2 k v)) in
           table_answers m.most m.places e (e ∷ es) (omega arith) pos
-          (filled_table (tuple2 k v) (both knows others) bytes (tuple2_spelling k keys v vals) m.most m.places (map hash_of (e ∷ es)) m.fit e es (length-map (e ∷ es) hash_of) (hashes_small (e ∷ es)) m.suits.1
+          (filled_table (tuple2 k v) (both knows others) bytes (tuple2_spelling k keys v vals) m.most m.places (map hash_of (e ∷ es)) m.fit m.binds e es (length-map (e ∷ es) hash_of) (hashes_small (e ∷ es)) m.suits.1
           m.names m.start pos m.state m.regions m.visits m.known m.archive m.plain)

@@ -1,5 +1,5 @@
 -- What an archived map returns for the entries that it was written of.
-use Rattle.std.specs.Prelude.{◌≡◌, ℕ, List, length, Option, None, MatchOption, IsSome}
+use Rattle.std.specs.Prelude.{true, ◌≡◌, ℕ, List, length, Option, None, MatchOption, IsSome}
 use Rattle.std.specs.Option.{IsSomeAnd}
 use Rattle.std.specs.List.{AllZip, find}
 use Rattle.std.specs.List.Sorted.{IsPermutation}
@@ -36,6 +36,7 @@ module _ {A B R P : Type 0} (k v : Shape) (knows others : Names → Type 0) (key
     pub most : ℕ
     pub places : ℕ
     pub fit : Fit
+    pub binds : fit.binds ≡ true
     pub names : Names
     pub given : Keys
     pub start : ℕ

@@ -8,6 +8,7 @@ use Rattle.archive_forms_laws.specs.Spelling.{Spelling}
 use Rattle.archive_forms_laws.proofs.Agreeing.{said, AgreeOn, slices_agree}
 use Rattle.archive_hash_writing.specs.Fitted.{capacity_of, by_place, controls_of}
 use Rattle.archive_hash_writing.specs.IndexMaps.{numbers, numbers_spelling, state_behind, map_spelling, index_spelling}
+use Rattle.archive_shape_canonical.specs.Settled.{IsAsked}
 
 -- the table of the numbers of entries is the same, and behind it the entries are those of a slice
 module _ {A R : Type 0} (w u : Spelling A R) (s : Shape) (most places : ℕ) where
@@ -34,7 +35,7 @@ module _ {A R : Type 0} (w u : Spelling A R) (s : Shape) (most places : ℕ) whe
         suits = λ fit given.
             let keys = keys_alone (members (entries i).plain) in
             (entries i).suits fit given
-            × ((fit.capacity (length all) ≡ capacity_of most places hashes all)
+            × IsAsked fit.binds ((fit.capacity (length all) ≡ capacity_of most places hashes all)
             × (fit.map_controls keys ≡ controls_of most places hashes ns)
             × (fit.map_numbers keys ≡ by_place most places hashes ns));
       }

@@ -20,6 +20,7 @@ use Rattle.archive_shape_layout.specs.Content.Content.{plain, illegal}
 use Rattle.archive_shape_layout.specs.Holds.{OpenShared, Ascends}
 use Rattle.archive_shape_layout.specs.Holds.Holds.{holds_plain}
 use Rattle.archive_shape_layout.specs.Holds.HoldAll.{holds_none}
+use Rattle.archive_shape_canonical.proofs.Choosing.{asked_map}
 use Rattle.archive_shape_canonical.specs.Settled.{Fit, IsSettled, naturals}
 use Rattle.archive_shape_canonical.specs.Canonical.{AreBytes}
 use Rattle.archive_shape_canonical.specs.FirstFit.{capacity_for, item_at, placed, present}
@@ -304,12 +305,12 @@ module _ {A R : Type 0} (fit : Fit) (k v : Shape) (knows : Names → Type 0) (w 
     map_settled st bytes pos t start cap same read same_plain kept =
         let vs = values w all (behind_table st) in
         let alike : all_erased (keys_alone vs) ≡ keys_alone (plain_values w all) = erased_by_keys (group vs) ∙ ap keys_alone same_plain in
-        let caps : capacity_of most places hashes ns ≡ capacity_of most places hashes all = ap (λ n. capacity_for n most places) (length-numbers all even tags each) in (
+        let caps : capacity_of most places hashes ns ≡ capacity_of most places hashes all = ap (λ n. capacity_for n most places) (length-numbers all even tags each) in asked_map fit.binds (λ kept. (
           count_keys_alone vs ∙ count_of w all (behind_table st),
           sym same ∙ caps ∙ sym kept.0,
           read ∙ sym kept.1 ∙ ap fit.map_controls (sym alike),
           ap group (numbers_alone (present standing) ∙ ap naturals (sym kept.2 ∙ ap fit.map_numbers (sym alike))),
-        )
+        )) kept
 
     filled_map :
         (st : State) (pos : ℕ) (names : Names) (keys : Keys) (bytes : List ℕ) (level : ℕ) (inside : List OpenShared)

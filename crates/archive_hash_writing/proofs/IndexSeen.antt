@@ -8,7 +8,7 @@ use Rattle.archive_shape_layout.specs.Value.Value.{group}
 use Rattle.archive_shape_layout.specs.Value.Values.{more_values}
 use Rattle.archive_shape_canonical.specs.FirstFit.{capacity_for}
 use Rattle.archive_shape_canonical.specs.Seen.{keys_alone}
-use Rattle.archive_shape_canonical.specs.Settled.{Fit}
+use Rattle.archive_shape_canonical.specs.Settled.{Fit, IsAsked}
 use Rattle.archive_shape.specs.Bytes.{zeros}
 use Rattle.archive_shape_layout.specs.declared.error.Error.{Error}
 use Rattle.archive_shape_layout.specs.declared.error.Error.TheVariants.{PositionTooLarge}
@@ -123,7 +123,7 @@ module _ {A B R Q : Type 0} (s : Shape) (view : B → A) (make : R → Q) (get :
           suits = λ fit given.
               let keys = keys_alone (plains_seen all i) in
               suits_seen all fit given i
-              × ((fit.capacity (long i) ≡ capacity_for (long i) most places)
+              × IsAsked fit.binds ((fit.capacity (long i) ≡ capacity_for (long i) most places)
               × (fit.map_controls keys ≡ controls_of most places hashes (numbered (long i)))
               × (fit.map_numbers keys ≡ by_place most places hashes (numbered (long i))));
         }

@@ -36,3 +36,4 @@ pub mod TextHash
 pub mod WholeRegion
 pub mod WholeTable
 pub mod WrittenItems
+pub mod Many

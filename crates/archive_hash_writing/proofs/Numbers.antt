@@ -1,5 +1,5 @@
 -- Tables of numbers are written as their one archive, where a fit fills them as they are written, and some fit does.
-use Rattle.std.proofs.Common.{ℕ, List, [], ◌∷◌, None, refl, map}
+use Rattle.std.proofs.Common.{true, ℕ, List, [], ◌∷◌, None, refl, map}
 use Rattle.archive_shape_canonical.specs.Settled.{Fit}
 use Rattle.archive_forms_laws.specs.State.{Keys}
 use Rattle.archive_forms_laws.specs.Regions.{all_suit}
@@ -14,10 +14,10 @@ use Rattle.archive_forms_laws.proofs.Samples.{number_spells, none_to_none}
 use Rattle.archive_forms_laws.specs.Sample.{number_spelling}
 
 -- no shared value is in them
-abbrev no_keys : Keys
+abbrev pub no_keys : Keys
 no_keys k = None
 
-none_shared : (fit : Fit) (xs : List ℕ) → all_suit number_spelling fit no_keys xs
+pub none_shared : (fit : Fit) (xs : List ℕ) → all_suit number_spelling fit no_keys xs
 none_shared fit [] = tt
 none_shared fit (x ∷ xs) = (tt, none_shared fit xs)
 
@@ -29,7 +29,7 @@ tables_are_written_law most places hash fit names xs bytes small filled f e =
 
 -- a fit that fills a table with this number of places and these controls, and leaves the items in their order
 abbrev filling : ℕ → List ℕ → Fit
-filling capacity controls = record { capacity = λ len. capacity; table_controls = λ keys. controls; table_items = λ keys. keys; map_controls = λ keys. []; map_numbers = λ keys. [] }
+filling capacity controls = record { binds = true; capacity = λ len. capacity; table_controls = λ keys. controls; table_items = λ keys. keys; map_controls = λ keys. []; map_numbers = λ keys. [] }
 
 pub each_is_filled_law : EachIsFilled
 each_is_filled_law most places hashes [] = (filling 0 [], tt)

@@ -10,7 +10,7 @@ use Rattle.archive_shape_layout.specs.Value.Value.{group}
 use Rattle.archive_shape_layout.specs.Value.Values.{more_values}
 use Rattle.archive_shape_canonical.specs.FirstFit.{capacity_for, fitted_from, item_at, present, written_controls}
 use Rattle.archive_shape_canonical.specs.Seen.{keys_alone}
-use Rattle.archive_shape_canonical.specs.Settled.{Fit}
+use Rattle.archive_shape_canonical.specs.Settled.{Fit, IsAsked}
 use Rattle.archive_shape.specs.Bytes.{zeros}
 use Rattle.archive_shape_layout.specs.declared.error.Error.{Error}
 use Rattle.archive_shape_layout.specs.declared.error.Error.TheVariants.{LengthTooLarge, PositionTooLarge}
@@ -40,7 +40,7 @@ filled s w len cap os controls = record {
   own_refused = λ to pos e. LinkRefused to pos e ⊎ ((2 ^ 32 ≤ cap) × (e ≡ LengthTooLarge));
   suits = λ fit given.
       let keys = keys_alone (plain_values w (present os)) in
-      all_suit w fit given (present os) × ((fit.capacity len ≡ cap) × (fit.table_controls keys ≡ controls) × (fit.table_items keys ≡ keys));
+      all_suit w fit given (present os) × IsAsked fit.binds ((fit.capacity len ≡ cap) × (fit.table_controls keys ≡ controls) × (fit.table_items keys ≡ keys));
 }
 
 module _ {A B R Q : Type 0} (s : Shape) (view : B → A) (make : R → Q) (get : Q → R) (back : (r : R) → get (make r) ≡ r) (w : Spelling A R) where
@@ -140,7 +140,7 @@ module _ {A B R Q : Type 0} (s : Shape) (view : B → A) (make : R → Q) (get :
     own_refused = λ to pos e. LinkRefused to pos e ⊎ ((2 ^ 32 ≤ cap) × (e ≡ LengthTooLarge));
     suits = λ fit given.
         let keys = keys_alone (plains_seen os i) in
-        suits_seen os fit given i × ((fit.capacity len ≡ cap) × (fit.table_controls keys ≡ controls) × (fit.table_items keys ≡ keys));
+        suits_seen os fit given i × IsAsked fit.binds ((fit.capacity len ≡ cap) × (fit.table_controls keys ≡ controls) × (fit.table_items keys ≡ keys));
   }
 
   -- ---- the positions of items

@@ -18,7 +18,8 @@ use Rattle.archive_shape_layout.specs.Content.Content.{plain, illegal}
 use Rattle.archive_shape_layout.specs.Holds.{OpenShared, Ascends}
 use Rattle.archive_shape_layout.specs.Holds.Holds.{holds_plain}
 use Rattle.archive_shape_layout.specs.Holds.HoldAll.{holds_none}
-use Rattle.archive_shape_canonical.specs.Settled.{Fit, IsSettled}
+use Rattle.archive_shape_canonical.proofs.Choosing.{asked_map}
+use Rattle.archive_shape_canonical.specs.Settled.{Fit, IsAsked, IsSettled}
 use Rattle.archive_shape_canonical.specs.FirstFit.{present}
 use Rattle.archive_shape_canonical.specs.Seen.{keys_alone}
 use Rattle.archive_shape_canonical.specs.Sharing.{all_erased}
@@ -146,27 +147,30 @@ module _ {A R : Type 0} (fit : Fit) (s : Shape) (knows : Names → Type 0) (w : 
         let keys = keys_alone (plain_values w (present os)) in
         (fit.capacity len ≡ capacity) × (fit.table_controls keys ≡ controls) × (fit.table_items keys ≡ keys)
 
+    abbrev IsFilledHere : Type 0
+    IsFilledHere = IsAsked fit.binds IsFilledSo
+
     buckets_settled : (st : State) (bytes : List ℕ) (pos : ℕ)
         → all_erased (values w (present os) st) ≡ plain_values w (present os)
-        → IsFilledSo
+        → IsFilledHere
         → FilledStands fit s knows w os controls each st bytes
         → IsSettled fit bytes (at pos (table s)) (buckets (controls_at s w os st) len capacity (item s) ∷ []) (more_values (group (values w (present os) st)) no_values)
     buckets_settled st bytes pos same_plain filled stands =
         let t = controls_at s w os st in
         let vs = values w (present os) st in
         let alike : all_erased (keys_alone vs) ≡ keys_alone (plain_values w (present os)) = erased_by_keys (group vs) ∙ ap keys_alone same_plain in
-        let read : window bytes t (control_count capacity) ≡ controls = ap (λ n. window bytes t (control_count n)) (sym long) ∙ controls_read fit s knows w os controls each st bytes are stands in (
+        let read : window bytes t (control_count capacity) ≡ controls = ap (λ n. window bytes t (control_count n)) (sym long) ∙ controls_read fit s knows w os controls each st bytes are stands in asked_map fit.binds (λ filled. (
           count_keys_alone vs ∙ count_of w (present os) st ∙ count,
           sym filled.0,
           read ∙ sym filled.1 ∙ ap fit.table_controls (sym alike),
           alike ∙ sym filled.2 ∙ ap fit.table_items (sym alike),
-        )
+        )) filled
 
     table_canonical :
         (st : State) (pos : ℕ) (names : Names) (keys : Keys) (bytes : List ℕ) (level : ℕ) (inside : List OpenShared)
         → knows names
         → all_suit w fit keys (present os)
-        → IsFilledSo
+        → IsFilledHere
         → AreKeyedBy keys st.met
         → IsConsistent st
         → AllFrom (st.pos + length (filled_piece s w os controls st)) inside

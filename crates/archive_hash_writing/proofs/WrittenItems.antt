@@ -20,7 +20,7 @@ use Rattle.archive_shape_layout.proofs.Windows.{word_within}
 use Rattle.archive_shape_canonical.proofs.Choosing.{choices, IsFilledAs, settled_chosen}
 use Rattle.archive_shape_canonical.specs.FirstFit.{item_at, present, control_at}
 use Rattle.archive_shape_canonical.specs.Seen.{keys_alone}
-use Rattle.archive_shape_canonical.specs.Settled.{Fit, IsSettled}
+use Rattle.archive_shape_canonical.specs.Settled.{Fit, IsAsked, IsSettled}
 use Rattle.archive_shape_canonical.specs.Sharing.{erased}
 use Rattle.archive_shape_canonical.specs.Canonical.{CanonicalArchive}
 use Rattle.archive_hash_probing.proofs.FirstFits.{written_low}
@@ -33,7 +33,7 @@ use Rattle.archive_hash_maps.specs.Tables.{Buckets, no_buckets, full_places, ite
 use Rattle.archive_hash_maps.specs.Tables.IsTableAt.{has_none, has_buckets}
 use Rattle.archive_hash_maps.proofs.Read.{table_is_read}
 use Rattle.archive_hash_writing.specs.Fitted.{capacity_of, places_of, by_place, controls_of}
-use Rattle.archive_hash_writing.specs.Tables.{IsFilledBy}
+use Rattle.archive_hash_writing.specs.Tables.{IsFilledBy, IsFilledSo}
 use Rattle.archive_hash_writing.proofs.Rooted.{made_one, root_settled}
 use Rattle.archive_hash_writing.proofs.SpellingPresent.{item_own}
 use Rattle.archive_hash_writing.proofs.SpellingFitting.{length-by_place, length-places, places_below, are_apart}
@@ -127,10 +127,13 @@ module _ {A R : Type 0} (s : Shape) (knows : Names → Type 0) (bytes : List ℕ
       pub each : (i : ℕ) (d : A) → i < length xs → HasItem s knows bytes w (item_position s buckets.target (get_or (places_of most places hashes xs) i 0)) (get_or xs i d)
       pub all : AllZip (HasItem s knows bytes w) (item_positions s buckets) (by_place most places hashes xs)
 
-    module _ (fit : Fit) (x : A) (xs : List A) (even : length hashes ≡ suc (length xs)) (tags : All (λ h. h < 2 ^ 64) hashes) (filled : IsFilledBy most places s w hashes fit (x ∷ xs))
+    module _ (fit : Fit) (binds : fit.binds ≡ true) (x : A) (xs : List A) (even : length hashes ≡ suc (length xs)) (tags : All (λ h. h < 2 ^ 64) hashes) (filled_by : IsFilledBy most places s w hashes fit (x ∷ xs))
         (names : Names) (start pos : ℕ) (st : State) (regions : List Region) (visits : List Visit) (known : knows names)
         (archive : CanonicalArchive fit names bytes start pos (table s) (group (values w (by_place most places hashes (x ∷ xs)) st)) regions visits)
         (plain_is : erased (group (values w (by_place most places hashes (x ∷ xs)) st)) ≡ group (plain_values w (by_place most places hashes (x ∷ xs)))) where
+      filled : IsFilledSo most places s w hashes fit x xs
+      filled = subst (λ b. IsAsked b (IsFilledSo most places s w hashes fit x xs)) binds filled_by
+
       abbrev Cap : ℕ
       Cap = capacity_of most places hashes (x ∷ xs)
 
@@ -157,7 +160,7 @@ module _ {A R : Type 0} (s : Shape) (knows : Names → Type 0) (bytes : List ℕ
           let root = root_settled fit names bytes start pos (table s) (group Items) regions visits same parts archive content in
           let one : root.vs ≡ more_values (group Items) no_values = made_one root.vs (group Items) root.is_made in
           let chosen : IsFilledAs (choices fit) bytes b.target len b.cap (more_values (group Items) no_values) =
-          settled_chosen fit bytes (at pos (table s)) parts (more_values (group Items) no_values) (subst (IsSettled fit bytes (at pos (table s)) parts) one root.settled) in
+          settled_chosen fit binds bytes (at pos (table s)) parts (more_values (group Items) no_values) (subst (IsSettled fit bytes (at pos (table s)) parts) one root.settled) in
           let len_is : len ≡ length (x ∷ xs) = sym chosen.0 ∙ count in (
             chosen.1 ∙ ap fit.capacity len_is ∙ filled.0,
             shown ∙ chosen.2 ∙ ap (λ (v : Value). fit.table_controls (keys_alone (members v))) plain_is ∙ filled.1,

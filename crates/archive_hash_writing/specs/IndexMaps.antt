@@ -5,7 +5,7 @@ use Rattle.std.specs.List.{range_with_len}
 use Rattle.archive_shape_layout.specs.Shape.{Shape}
 use Rattle.archive_shape_layout.specs.Value.Value.{group}
 use Rattle.archive_shape_canonical.specs.Seen.{keys_alone}
-use Rattle.archive_shape_canonical.specs.Settled.{Fit}
+use Rattle.archive_shape_canonical.specs.Settled.{Fit, IsAsked}
 use Rattle.archive_shape_layout.specs.declared.error.Error.{Error}
 use Rattle.archive_forms_laws.specs.State.{State}
 use Rattle.archive_forms_laws.specs.Spelling.{Spelling, state_after}
@@ -47,14 +47,18 @@ module _ {A R : Type 0} (most places : ℕ) (s : Shape) (w : Spelling A R) (hash
   map_refused [] st e = ⊥
   map_refused (x ∷ xs) st e = numbers_spelling.piece_refused (numbers (x ∷ xs)) st e ⊎ region_refused w s (x ∷ xs) (state_behind (x ∷ xs) st) e
 
-  -- a fit fills an index map with these entries so, where they are seen by their keys
-  abbrev pub IsKeptBy : Fit → List A → Type 0
-  IsKeptBy fit [] = ⊤
-  IsKeptBy fit (x ∷ xs) =
+  -- how a fit fills an index map with these entries, where they are seen by their keys
+  abbrev pub IsKeptSo : Fit → A → List A → Type 0
+  IsKeptSo fit x xs =
       let keys = keys_alone (plain_values w (x ∷ xs)) in
       (fit.capacity (length (x ∷ xs)) ≡ capacity_of most places hashes (x ∷ xs))
       × (fit.map_controls keys ≡ controls_of most places hashes (numbers (x ∷ xs)))
       × (fit.map_numbers keys ≡ by_place most places hashes (numbers (x ∷ xs)))
+
+  -- it fills it so, where it binds
+  abbrev pub IsKeptBy : Fit → List A → Type 0
+  IsKeptBy fit [] = ⊤
+  IsKeptBy fit (x ∷ xs) = IsAsked fit.binds (IsKeptSo fit x xs)
 
   -- the resolver is where the controls stand, and where the entries do
   abbrev pub map_spelling : Spelling (List A) (Option ℕ × Option ℕ)

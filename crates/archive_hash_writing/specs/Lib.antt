@@ -7,6 +7,7 @@ pub mod IndexMaps
 pub mod IndexResolvers
 pub mod Laws
 pub mod Laying
+pub mod Many
 pub mod Sample
 pub mod Standing
 pub mod Tables

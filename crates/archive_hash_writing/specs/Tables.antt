@@ -7,7 +7,7 @@ use Rattle.archive_shape_layout.specs.Shape.{Shape, size_of, align_of}
 use Rattle.archive_shape_layout.specs.Value.Value.{group}
 use Rattle.archive_shape_canonical.specs.FirstFit.{present}
 use Rattle.archive_shape_canonical.specs.Seen.{keys_alone}
-use Rattle.archive_shape_canonical.specs.Settled.{Fit}
+use Rattle.archive_shape_canonical.specs.Settled.{Fit, IsAsked}
 use Rattle.archive_shape.specs.Bytes.{zeros}
 use Rattle.archive_shape_layout.specs.declared.error.Error.{Error}
 use Rattle.archive_shape_layout.specs.declared.error.Error.TheVariants.{LengthTooLarge, PositionTooLarge}
@@ -94,14 +94,18 @@ module _ {A R : Type 0} (most places : ℕ) (s : Shape) (w : Spelling A R) where
     table_refused [] st e = ⊥
     table_refused (x ∷ xs) st e = filled_refused s w (table_of most places hashes (x ∷ xs)) (controls_of most places hashes (x ∷ xs)) st e
 
-    -- a fit fills a table with these items, where it is given the items' keys
-    abbrev pub IsFilledBy : Fit → List A → Type 0
-    IsFilledBy fit [] = ⊤
-    IsFilledBy fit (x ∷ xs) =
+    -- how a fit fills a table with these items, where it is given the items' keys
+    abbrev pub IsFilledSo : Fit → A → List A → Type 0
+    IsFilledSo fit x xs =
         let keys = keys_alone (plain_values w (by_place most places hashes (x ∷ xs))) in
         (fit.capacity (length (x ∷ xs)) ≡ capacity_of most places hashes (x ∷ xs))
         × (fit.table_controls keys ≡ controls_of most places hashes (x ∷ xs))
         × (fit.table_items keys ≡ keys)
+
+    -- it fills it so, where it binds
+    abbrev pub IsFilledBy : Fit → List A → Type 0
+    IsFilledBy fit [] = ⊤
+    IsFilledBy fit (x ∷ xs) = IsAsked fit.binds (IsFilledSo fit x xs)
 
     -- the items are passed as a list, and have values by ascending place
     abbrev pub hashed_spelling : Spelling (List A) (Option ℕ)

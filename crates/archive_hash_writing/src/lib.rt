@@ -4,7 +4,7 @@
 pub mod index;
 mod spelling;
 
-pub use spelling::{each_is_filled, samples_are_spelled, tables_are_written};
+pub use spelling::{each_is_filled, many_are_held, samples_are_spelled, tables_are_written};
 
 mod buckets;
 mod data;

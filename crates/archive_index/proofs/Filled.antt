@@ -1,5 +1,5 @@
 -- A written index map that is the root of its archive: the places and the controls of its table, the number at each place, and the entry of each number.
-use Rattle.std.proofs.Common.{◌≡◌, ◌∙◌, ℕ, zero, suc, ◌+◌, ◌^◌, ◌<◌, ◌≤◌, Some, List, [], ◌∷◌, length, map, filter, get_or, slice_index, nat_lt, refl, ap, sym, subst, arith}
+use Rattle.std.proofs.Common.{true, ◌≡◌, ◌∙◌, ℕ, zero, suc, ◌+◌, ◌^◌, ◌<◌, ◌≤◌, Some, List, [], ◌∷◌, length, map, filter, get_or, slice_index, nat_lt, refl, ap, sym, subst, arith}
 use Rattle.std.specs.List.{All, range_with_len}
 use Rattle.std.proofs.lemmas.List.FromFn.{length-range_with_len, get_or-range_with_len}
 use Rattle.archive_forms_laws.specs.SpellingLaws.{KnowsAll}
@@ -22,7 +22,7 @@ use Rattle.archive_shape_layout.proofs.Windows.{word_within}
 use Rattle.archive_shape.specs.Key.{HeldAt}
 use Rattle.archive_shape_canonical.specs.FirstFit.{capacity_for, control_at, fitted_from, item_at, written_controls}
 use Rattle.archive_shape_canonical.specs.Seen.{keys_alone}
-use Rattle.archive_shape_canonical.specs.Settled.{Fit, IsSettled, naturals}
+use Rattle.archive_shape_canonical.specs.Settled.{IsAsked, Fit, IsSettled, naturals}
 use Rattle.archive_shape_canonical.specs.Sharing.{erased}
 use Rattle.archive_shape_canonical.specs.Canonical.{CanonicalArchive}
 use Rattle.archive_shape_canonical.proofs.Choosing.{choices, IsFilledAs, settled_chosen}
@@ -46,7 +46,7 @@ use Rattle.archive_hash_writing.proofs.SpellingPresent.{item_own}
 use Rattle.archive_hash_writing.proofs.SpellingFitting.{length-places, places_below, are_apart}
 use Rattle.archive_hash_writing.proofs.Tagged.{IsTagOf, item_tagged}
 use Rattle.archive_hash_writing.proofs.WrittenItems.{HasItem, items_lie}
-use Rattle.archive_hash_writing.specs.IndexMaps.{numbers, IsKeptBy}
+use Rattle.archive_hash_writing.specs.IndexMaps.{numbers, IsKeptSo, IsKeptBy}
 use Rattle.archive_hash_writing.proofs.IndexMaps.{filled_content, numbers_are}
 use Rattle.archive_hash_writing.proofs.IndexPlaces.{number_held}
 use Rattle.archive_index.specs.Maps.{IndexMap, IsMapAt, count_of, entry_position}
@@ -109,10 +109,13 @@ module _ {A R : Type 0} (k v : Shape) (knows others : Names → Type 0) (bytes :
       pub numbered : (i : ℕ) → i < length xs → word_at bytes (item_position number_shape map.buckets.target (get_or (places_of most places hashes xs) i 0)) ≡ i
       pub each : (i : ℕ) (d : A) → i < length xs → HasItem pair (both knows others) bytes w (entry_position k v map i) (get_or xs i d)
 
-    module _ (fit : Fit) (x : A) (xs : List A) (even : length hashes ≡ suc (length xs)) (tags : All (λ h. h < 2 ^ 64) hashes) (kept : IsKeptBy most places pair w hashes fit (x ∷ xs))
+    module _ (fit : Fit) (binds : fit.binds ≡ true) (x : A) (xs : List A) (even : length hashes ≡ suc (length xs)) (tags : All (λ h. h < 2 ^ 64) hashes) (kept_by : IsKeptBy most places pair w hashes fit (x ∷ xs))
         (names : Names) (start pos : ℕ) (st : State) (regions : List Region) (visits : List Visit) (known : both knows others names)
         (archive : CanonicalArchive fit names bytes start pos (index_map k v) (group (values w (x ∷ xs) st)) regions visits)
         (plain_is : erased (group (values w (x ∷ xs) st)) ≡ group (plain_values w (x ∷ xs))) where
+      kept : IsKeptSo most places pair w hashes fit x xs
+      kept = subst (λ b. IsAsked b (IsKeptSo most places pair w hashes fit x xs)) binds kept_by
+
       abbrev all : List A
       all = x ∷ xs
 
@@ -163,7 +166,7 @@ module _ {A R : Type 0} (k v : Shape) (knows others : Names → Type 0) (bytes :
               let last : first.0 ≡ group Items = made_two read.numbers (group Items) first.0 (subst (λ vs. made second vs ≡ Some (group Items)) first.1 root.is_made) in
               let are_two : root.vs ≡ more_values read.numbers (more_values (group Items) no_values) = first.1 ∙ ap (λ u. more_values read.numbers (more_values u no_values)) last in
               let chosen : IsFilledAs (choices fit) bytes b.target len b.cap (more_values read.numbers (more_values (group Items) no_values)) =
-              settled_chosen fit bytes (at pos (index_map k v)) parts (more_values read.numbers (more_values (group Items) no_values)) (subst (IsSettled fit bytes (at pos (index_map k v)) parts) are_two root.settled) in
+              settled_chosen fit binds bytes (at pos (index_map k v)) parts (more_values read.numbers (more_values (group Items) no_values)) (subst (IsSettled fit bytes (at pos (index_map k v)) parts) are_two root.settled) in
               let caps : capacity_of most places hashes all ≡ Cap = ap (λ m. capacity_for m most places) (sym long) in
               record {
                 cap_is = chosen.1 ∙ ap fit.capacity len_is ∙ kept.0 ∙ caps;

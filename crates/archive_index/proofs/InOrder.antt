@@ -140,6 +140,6 @@ module _ {A B R P : Type 0} (k v : Shape) (knows others : Names → Type 0) (key
   map_answers (e ∷ es) m =
       let pos = root_position (length bytes) (index_map k v) in
       map_answers_so m.most m.places e (e ∷ es) (omega arith) pos
-      (filled_map k v knows others bytes (tuple2_spelling k keys v vals) m.most m.places (map hash_of (e ∷ es)) m.fit e es (length-map (e ∷ es) hash_of)
+      (filled_map k v knows others bytes (tuple2_spelling k keys v vals) m.most m.places (map hash_of (e ∷ es)) m.fit m.binds e es (length-map (e ∷ es) hash_of)
       (hashes_small k v knows others keys vals bytes key order key_of represents one_key fed query_fed fed_as_key alike hashes one (e ∷ es)) m.suits.1
       m.names m.start pos _ m.regions m.visits m.known m.archive m.plain)

@@ -1,5 +1,5 @@
 -- What an archived index map returns for the entries that it was written of.
-use Rattle.std.specs.Prelude.{◌≡◌, ℕ, ◌<◌, List, length, get_or, Option, None, MatchOption}
+use Rattle.std.specs.Prelude.{true, ◌≡◌, ℕ, ◌<◌, List, length, get_or, Option, None, MatchOption}
 use Rattle.std.specs.Option.{IsSomeAnd, option_map}
 use Rattle.std.specs.List.{AllZip}
 use Rattle.std.specs.declared.cmp.Ordering.{Ordering}
@@ -34,6 +34,7 @@ module _ {A B R P : Type 0} (k v : Shape) (knows others : Names → Type 0) (key
     pub most : ℕ
     pub places : ℕ
     pub fit : Fit
+    pub binds : fit.binds ≡ true
     pub names : Names
     pub given : Keys
     pub start : ℕ

@@ -15,7 +15,7 @@ use Rattle.archive_shape_layout.proofs.Evaluate.{legal, same_visit}
 use Rattle.archive_shape_canonical.specs.Packed.{child_items, ArePacked, IsPacked}
 use Rattle.archive_shape_canonical.specs.Seen.{seen_bytes, seen_values}
 use Rattle.archive_shape_canonical.specs.Sharing.{erased, all_erased, Differ, AllDiffer, AreDistinct}
-use Rattle.archive_shape_canonical.specs.Settled.{Fit, naturals, IsFitted, HasItems, LeadsSettled, SeenSettled, IsSettled}
+use Rattle.archive_shape_canonical.specs.Settled.{Fit, naturals, IsFilledSo, IsAsked, IsFitted, HasItems, LeadsSettled, SeenSettled, IsSettled}
 use Rattle.archive_shape_canonical.specs.Canonical.{InRegions}
 use Rattle.archive_shape_canonical.proofs.SameValue.{same_numbers, numbers_are, same_value, value_is, value_itself, same_values, values_are}
 use Rattle.archive_shape_canonical.proofs.CleanTests.{tested, turned, carried, joint, number_test, most_test, less_test, Run, run_of, InRuns, zero_outside, outside_zero}
@@ -51,23 +51,30 @@ values_test vs ws = turned (values_are vs ws) (tested (same_values vs ws))
 abbrev four : {A B C D : Type 0} → Option A → Option B → Option C → Option D → Option (A × B × C × D)
 four a b c d = carried a (λ x. carried b (λ y. carried c (λ z. turned (λ w. (x, y, z, w)) d)))
 
-abbrev fitted_test : (fit : Fit) (controls : List ℕ) (len cap : ℕ) (vs : Values) → Option (IsFitted fit controls len cap vs)
-fitted_test fit controls len cap no_values = None
-fitted_test fit controls len cap (more_values items no_values) =
+abbrev filled_test : (fit : Fit) (controls : List ℕ) (len cap : ℕ) (vs : Values) → Option (IsFilledSo fit controls len cap vs)
+filled_test fit controls len cap no_values = None
+filled_test fit controls len cap (more_values items no_values) =
     let keys = all_erased (members items) in
     four
     (number_test (count_values (members items)) len)
     (number_test cap (fit.capacity len))
     (numbers_test controls (fit.table_controls keys))
     (values_test keys (fit.table_items keys))
-fitted_test fit controls len cap (more_values numbers (more_values entries no_values)) =
+filled_test fit controls len cap (more_values numbers (more_values entries no_values)) =
     let keys = all_erased (members entries) in
     four
     (number_test (count_values (members entries)) len)
     (number_test cap (fit.capacity len))
     (numbers_test controls (fit.map_controls keys))
     (value_test numbers (group (naturals (fit.map_numbers keys))))
-fitted_test fit controls len cap (more_values numbers (more_values entries (more_values v vs))) = None
+filled_test fit controls len cap (more_values numbers (more_values entries (more_values v vs))) = None
+
+abbrev asked_test : {A : Type 0} (b : Bool) → Option A → Option (IsAsked b A)
+asked_test true a = a
+asked_test false a = Some tt
+
+abbrev fitted_test : (fit : Fit) (controls : List ℕ) (len cap : ℕ) (vs : Values) → Option (IsFitted fit controls len cap vs)
+fitted_test fit controls len cap vs = asked_test fit.binds (filled_test fit controls len cap vs)
 
 -- ---- parts
 

@@ -1,5 +1,5 @@
 -- What is settled where the layout leaves a choice, stated of whole values and not of what is seen of them.
-use Rattle.std.proofs.Common.{arith, refl, ap, ap₂, sym, subst, ◌∙◌, ◌<◌, ◌≤◌, zero, suc, ◌+◌, drop, slice_index, ◌≡◌, ℕ, List, [], ◌∷◌}
+use Rattle.std.proofs.Common.{false, Bool, arith, refl, ap, ap₂, sym, subst, ◌∙◌, ◌<◌, ◌≤◌, zero, suc, ◌+◌, drop, slice_index, ◌≡◌, ℕ, true, List, [], ◌∷◌}
 use Rattle.std.specs.Prelude.{⊤}
 use Rattle.archive_shape_layout.specs.Bytes.{window}
 use Rattle.archive_shape_layout.specs.Value.{Value, Values, count_values, append_values}
@@ -9,7 +9,7 @@ use Rattle.archive_shape_layout.specs.Content.{Part, members, weave, first_value
 use Rattle.archive_shape_layout.specs.Content.Part.{at, behind, node, child, entry, buckets, place_at}
 use Rattle.archive_shape_canonical.specs.Packed.{IsPacked, ArePacked}
 use Rattle.archive_shape_canonical.specs.Seen.{first_seen_bytes, blank, blanks, all_blank, key_alone, keys_alone, by_keys, all_by_keys, first_seen_values}
-use Rattle.archive_shape_canonical.specs.Settled.{Fit, IsFitted, HasItems, LeadsSettled, IsSettled, naturals}
+use Rattle.archive_shape_canonical.specs.Settled.{Fit, IsFilledSo, IsAsked, IsFitted, HasItems, LeadsSettled, IsSettled, naturals}
 use Rattle.archive_shape_canonical.specs.Sharing.{erased, all_erased}
 
 -- ---- the same of whole values
@@ -112,7 +112,7 @@ children_packed most n i (more_values (chosen m us) vs) e = absurd e
 children_packed most n i (more_values (counted m u) vs) e = absurd e
 children_packed most n i (more_values (back m) vs) e = absurd e
 
-node_packed : (most kind : ℕ) (vs : Values) → IsPacked most kind (all_blank vs) → IsPacked most kind vs
+pub node_packed : (most kind : ℕ) (vs : Values) → IsPacked most kind (all_blank vs) → IsPacked most kind vs
 node_packed most zero vs e = tt
 node_packed most (suc kind) vs e =
     let n = count_values (weave (first_values (most + 1) vs) (other_values (most + 1) vs)) in
@@ -190,8 +190,12 @@ of_numbers ns (chosen t us) e = absurd (cc)
 of_numbers ns (counted t u) e = absurd (cc)
 of_numbers ns (back t) e = absurd (cc)
 
+pub asked_map : {A B : Type 0} (b : Bool) → (A → B) → IsAsked b A → IsAsked b B
+asked_map true f a = f a
+asked_map false f a = tt
+
 pub buckets_filled : (fit : Fit) (bytes : List ℕ) (target len cap : ℕ) (vs : Values)
-    → IsFitted fit (window bytes target (control_count cap)) len cap (all_by_keys vs) → IsFilledAs (choices fit) bytes target len cap vs
+    → IsFilledSo fit (window bytes target (control_count cap)) len cap (all_by_keys vs) → IsFilledAs (choices fit) bytes target len cap vs
 buckets_filled fit bytes target len cap no_values e = absurd e
 buckets_filled fit bytes target len cap (more_values items no_values) e =
     (sym (count_by_keys items) ∙ e.0, e.1, e.2 ∙ ap fit.table_controls (erased_by_keys items))
@@ -203,28 +207,29 @@ buckets_filled fit bytes target len cap (more_values numbers (more_values entrie
 )
 buckets_filled fit bytes target len cap (more_values numbers (more_values entries (more_values v vs))) e = absurd e
 
-items_there : (vs : Values) → HasItems (all_by_keys vs) → HasItems vs
+pub items_there : (vs : Values) → HasItems (all_by_keys vs) → HasItems vs
 items_there no_values e = absurd e
 items_there (more_values v vs) e = subst (λ n. 1 ≤ n) (count_by_keys v) e
 
-leads_chosen : (fit : Fit) (bytes : List ℕ) (ps : List Part) (vs : Values) (seen : List ℕ) → seen ≡ first_seen_bytes bytes ps
+leads_chosen : (fit : Fit) → fit.binds ≡ true → (bytes : List ℕ) (ps : List Part) (vs : Values) (seen : List ℕ) → seen ≡ first_seen_bytes bytes ps
     → LeadsSettled fit seen ps (first_seen_values ps vs) → LeadsChosen (choices fit) bytes ps vs
-leads_chosen fit bytes [] vs seen s e = tt
-leads_chosen fit bytes (at pos s ∷ ps) vs seen is e = tt
-leads_chosen fit bytes (behind pos p len ∷ ps) vs seen is e = tt
-leads_chosen fit bytes (node level most k v pos ∷ ps) vs seen is e = items_there vs e
-leads_chosen fit bytes (child level most k v pos ∷ ps) vs seen is e = tt
-leads_chosen fit bytes (entry k key_pos v value_pos ∷ ps) vs seen is e = tt
-leads_chosen fit bytes (buckets target len cap it ∷ ps) vs seen is e =
-    buckets_filled fit bytes target len cap vs (subst (λ x. IsFitted fit x len cap (all_by_keys vs)) is e)
-leads_chosen fit bytes (place_at pos limit ∷ ps) vs seen is e = tt
+leads_chosen fit binds bytes [] vs seen s e = tt
+leads_chosen fit binds bytes (at pos s ∷ ps) vs seen is e = tt
+leads_chosen fit binds bytes (behind pos p len ∷ ps) vs seen is e = tt
+leads_chosen fit binds bytes (node level most k v pos ∷ ps) vs seen is e = items_there vs e
+leads_chosen fit binds bytes (child level most k v pos ∷ ps) vs seen is e = tt
+leads_chosen fit binds bytes (entry k key_pos v value_pos ∷ ps) vs seen is e = tt
+leads_chosen fit binds bytes (buckets target len cap it ∷ ps) vs seen is e =
+    buckets_filled fit bytes target len cap vs
+    (subst (λ x. IsFilledSo fit x len cap (all_by_keys vs)) is (subst (λ b. IsAsked b (IsFilledSo fit seen len cap (all_by_keys vs))) binds e))
+leads_chosen fit binds bytes (place_at pos limit ∷ ps) vs seen is e = tt
 
 -- what is settled is chosen
-pub settled_chosen : (fit : Fit) (bytes : List ℕ) (p : Part) (ps : List Part) (vs : Values) → IsSettled fit bytes p ps vs → IsChosen (choices fit) bytes p ps vs
-settled_chosen fit bytes (at pos s) ps vs e = leads_chosen fit bytes ps vs _ refl e
-settled_chosen fit bytes (behind pos p len) ps vs e = tt
-settled_chosen fit bytes (node level most k v pos) ps vs e = node_packed most (slice_index (drop pos bytes) 0) vs e
-settled_chosen fit bytes (child level most k v pos) ps vs e = leads_chosen fit bytes ps vs _ refl e
-settled_chosen fit bytes (entry k key_pos v value_pos) ps vs e = tt
-settled_chosen fit bytes (buckets target len cap it) ps vs e = tt
-settled_chosen fit bytes (place_at pos limit) ps vs e = tt
+pub settled_chosen : (fit : Fit) → fit.binds ≡ true → (bytes : List ℕ) (p : Part) (ps : List Part) (vs : Values) → IsSettled fit bytes p ps vs → IsChosen (choices fit) bytes p ps vs
+settled_chosen fit binds bytes (at pos s) ps vs e = leads_chosen fit binds bytes ps vs _ refl e
+settled_chosen fit binds bytes (behind pos p len) ps vs e = tt
+settled_chosen fit binds bytes (node level most k v pos) ps vs e = node_packed most (slice_index (drop pos bytes) 0) vs e
+settled_chosen fit binds bytes (child level most k v pos) ps vs e = leads_chosen fit binds bytes ps vs _ refl e
+settled_chosen fit binds bytes (entry k key_pos v value_pos) ps vs e = tt
+settled_chosen fit binds bytes (buckets target len cap it) ps vs e = tt
+settled_chosen fit binds bytes (place_at pos limit) ps vs e = tt

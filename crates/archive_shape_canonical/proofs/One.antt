@@ -1,5 +1,5 @@
 -- A value has one canonical archive.
-use Rattle.std.proofs.Common.{◌≡◌, ℕ, ◌+◌, ◌-◌, List, [], ◌∷◌, ◌++◌, drop, length, slice_index, Some, refl, ap, ap₂, sym, subst, ◌∙◌, arith, ◌⊎◌, ⊎_elim, get_or-drop, length-drop}
+use Rattle.std.proofs.Common.{true, ◌≡◌, ℕ, ◌+◌, ◌-◌, List, [], ◌∷◌, ◌++◌, drop, length, slice_index, Some, refl, ap, ap₂, sym, subst, ◌∙◌, arith, ◌⊎◌, ⊎_elim, get_or-drop, length-drop}
 use Rattle.std.specs.Prelude.{⊤}
 use Rattle.std.proofs.lemmas.List.{ext_get_or}
 use Rattle.archive_shape_layout.specs.Content.{Names, Part}
@@ -24,7 +24,7 @@ use Rattle.archive_shape_canonical.proofs.Once.{shrink, shrink_all, found_before
 use Rattle.archive_shape_canonical.proofs.Windows.{InRegions-append}
 use Rattle.archive_shape_canonical.proofs.Cases.{Same, SameAll, kinds, plain_case, claimed_case, counted_case}
 
-module _ (fit : Fit) (names : Names) (bytes others : List ℕ) (small : AreBytes bytes) (tiny : AreBytes others) where
+module _ (fit : Fit) (binds : fit.binds ≡ true) (names : Names) (bytes others : List ℕ) (small : AreBytes bytes) (tiny : AreBytes others) where
   later_value : (t t' : ℕ) (w w' : Value) → erased (counted t w) ≡ erased (counted t' w') → erased w ≡ erased w'
   later_value t t' w w' e = let both : counted 0 (erased w) ≡ counted 0 (erased w') = e in cc
 
@@ -46,11 +46,11 @@ module _ (fit : Fit) (names : Names) (bytes others : List ℕ) (small : AreBytes
         → Ascends a (length bytes) rs → Ascends a' (length others) rs' → AreDistinct after → AreDistinct after'
         → Same fit names bytes others small tiny P p p' v v' rs rs' after after' (end_of h low) (end_of h' low')
     one {P = P} low low' a a' (holds_plain e legal all m) (holds_plain e' legal' all' m') k alike since eq n n' asc asc' d d' =
-        plain_case fit names bytes others small tiny a a' (settled_chosen fit bytes _ _ _ n.1) (settled_chosen fit others _ _ _ n'.1) k e e' all all' asc asc' m m' alike n.0 n'.0 (λ parts values. one_all low low' a a' all all' parts values since eq n.2 n'.2 asc asc' d d')
+        plain_case fit names bytes others small tiny a a' (settled_chosen fit binds bytes _ _ _ n.1) (settled_chosen fit binds others _ _ _ n'.1) k e e' all all' asc asc' m m' alike n.0 n'.0 (λ parts values. one_all low low' a a' all all' parts values since eq n.2 n'.2 asc asc' d d')
     one low low' a a' (holds_claimed {level = level} {regions = rs} {within = within} {s = s} e legal all m r) (holds_claimed {regions = rs'} {within = within'} {s = s'} e' legal' all' m' r') k alike since eq n n' asc asc' d d' =
         let below = ((Ascends-append a (length bytes) within (region_of s level ∷ [])).0 (subst (Ascends a (length bytes)) r asc)).0 in
         let below' = ((Ascends-append a' (length others) within' (region_of s' level ∷ [])).0 (subst (Ascends a' (length others)) r' asc')).0 in
-        claimed_case fit names bytes others small tiny a a' (end_of_all all low) (end_of_all all' low') (settled_chosen fit bytes _ _ _ n.1) (settled_chosen fit others _ _ _ n'.1) k (holds_claimed e legal all m r) (holds_claimed e' legal' all' m' r') e e' all all' r r' asc asc' m m' alike n.0 n'.0 n.3 n'.3
+        claimed_case fit names bytes others small tiny a a' (end_of_all all low) (end_of_all all' low') (settled_chosen fit binds bytes _ _ _ n.1) (settled_chosen fit binds others _ _ _ n'.1) k (holds_claimed e legal all m r) (holds_claimed e' legal' all' m' r') e e' all all' r r' asc asc' m m' alike n.0 n'.0 n.3 n'.3
         (λ Q parts values. one_all low low' a a' all all' parts values since eq n.2 n'.2 below below' d d')
     one low low' a a' (holds_first {w = w} {t = t} {q = q} {len = len} e x y h z g) (holds_first {w = w'} {t = t'} {q = q'} {len = len'} e' x' y' h' z' g') k alike since eq n n' asc asc' d d' =
         let c = counted_case fit names bytes others small tiny k e e' n.0 n'.0 in
@@ -147,9 +147,9 @@ module _ (fit : Fit) (names : Names) (bytes others : List ℕ) (small : AreBytes
         }
 
 pub one_archive_law : OneArchive
-one_archive_law fit names bytes others start pos from s v w rs qs a b x y alike =
+one_archive_law fit names bytes others start pos from s v w rs qs a b binds x y alike =
     let first : Akin bytes others ⊤ (behind pos (sized s) 1) (behind from (sized s) 1) = akin_behind refl in
-    let o = one fit names bytes others x.bytes_are y.bytes_are start start 0 0 x.root.holds y.root.holds first alike refl refl x.canonical y.canonical x.root.ascends y.root.ascends x.once y.once in
+    let o = one fit binds names bytes others x.bytes_are y.bytes_are start start 0 0 x.root.holds y.root.holds first alike refl refl x.canonical y.canonical x.root.ascends y.root.ascends x.once y.once in
     let lengths : length bytes ≡ length others = sym x.ends ∙ o.ends ∙ y.ends in
     ext_get_or 0 (drop start bytes) (drop start others) (length-drop start bytes ∙ ap (λ n. n - start) lengths ∙ sym (length-drop start others))
     (λ i l. get_or-drop start bytes i 0 ∙ same_byte (start + i) o.regions o.inside (x.gaps (start + i) (omega arith)) (y.gaps (start + i) (omega arith)) ∙ sym (get_or-drop start others i 0))

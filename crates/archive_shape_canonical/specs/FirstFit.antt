@@ -111,6 +111,7 @@ module _ (hash : List ℕ → ℕ) where
   -- a table takes its items by ascending keys, an index map in its own order
   abbrev pub first_fit : Fit
   first_fit = record {
+    binds = true;
     capacity = map_capacity;
     table_controls = λ items. controls_of (map_capacity (count_values items)) (ascending (keys_in items));
     table_items = λ items. items_of (placed_keys (map_capacity (count_values items)) (ascending (keys_in items)));

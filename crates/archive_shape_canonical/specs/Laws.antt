@@ -1,5 +1,5 @@
 -- The laws of canonical archives, as statements.
-use Rattle.std.specs.Prelude.{◌≡◌, ℕ, zero, suc, ◌<◌, IsUtf8, List, [], ◌∷◌, ◌++◌, drop, Some, ⊤}
+use Rattle.std.specs.Prelude.{true, ◌≡◌, ℕ, zero, suc, ◌<◌, IsUtf8, List, [], ◌∷◌, ◌++◌, drop, Some, ⊤}
 use Rattle.archive_shape_layout.specs.Bytes.{window}
 use Rattle.archive_shape_layout.specs.Shape.{Shape, size_of}
 use Rattle.archive_shape_layout.specs.Shape.Pointee.{sized, str}
@@ -21,10 +21,11 @@ use Rattle.archive_shape_canonical.specs.Sharing.{erased}
 use Rattle.archive_shape_canonical.specs.FirstFit.{first_fit, by_key}
 use Rattle.archive_shape_canonical.specs.Canonical.{CanonicalArchive, IsCanonical, end_of, AreBytes}
 
--- a value has one canonical archive from a position on
+-- a value has one canonical archive from a position on, by a fit that binds
 abbrev pub OneArchive : Type 0
 OneArchive =
     (fit : Fit) (names : Names) (bytes others : List ℕ) (start pos from : ℕ) (s : Shape) (v w : Value) (rs qs : List Region) (a b : List Visit)
+    → fit.binds ≡ true
     → CanonicalArchive fit names bytes start pos s v rs a
     → CanonicalArchive fit names others start from s w qs b
     → erased v ≡ erased w

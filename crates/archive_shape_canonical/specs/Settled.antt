@@ -1,5 +1,5 @@
 -- Where the layout leaves a choice, and what is chosen: search trees are packed, and tables are filled by a fit.
-use Rattle.std.specs.Prelude.{◌≡◌, ℕ, ◌≤◌, List, [], ◌∷◌, slice_index, ⊤}
+use Rattle.std.specs.Prelude.{◌≡◌, ℕ, Bool, true, false, ◌≤◌, List, [], ◌∷◌, slice_index, ⊤}
 use Rattle.archive_shape_layout.specs.Value.{Values, count_values}
 use Rattle.archive_shape_layout.specs.Value.Value.{natural, group}
 use Rattle.archive_shape_layout.specs.Value.Values.{no_values, more_values}
@@ -12,6 +12,8 @@ use Rattle.archive_shape_canonical.specs.Sharing.{all_erased}
 -- How tables are filled. It is given items with their keys alone: those of a table place by place, those of an index
 -- map in its order.
 pub record Fit : Type 0 where
+  -- whether tables are filled so; otherwise they may be filled in any way
+  pub binds : Bool
   -- the number of places for a number of items
   pub capacity : ℕ → ℕ
   pub table_controls : Values → List ℕ
@@ -26,14 +28,22 @@ naturals [] = no_values
 naturals (n ∷ ns) = more_values (natural n) (naturals ns)
 
 -- a table of `len` items; an index map, whose numbers come before its entries
-abbrev pub IsFitted : Fit → List ℕ → ℕ → ℕ → Values → Type 0
-IsFitted fit controls len cap (more_values items no_values) =
+abbrev pub IsFilledSo : Fit → List ℕ → ℕ → ℕ → Values → Type 0
+IsFilledSo fit controls len cap (more_values items no_values) =
     let keys = all_erased (members items) in
     (count_values (members items) ≡ len) × (cap ≡ fit.capacity len) × (controls ≡ fit.table_controls keys) × (keys ≡ fit.table_items keys)
-IsFitted fit controls len cap (more_values numbers (more_values entries no_values)) =
+IsFilledSo fit controls len cap (more_values numbers (more_values entries no_values)) =
     let keys = all_erased (members entries) in
     (count_values (members entries) ≡ len) × (cap ≡ fit.capacity len) × (controls ≡ fit.map_controls keys) × (numbers ≡ group (naturals (fit.map_numbers keys)))
-IsFitted fit controls len cap vs = ⊥
+IsFilledSo fit controls len cap vs = ⊥
+
+abbrev pub IsAsked : Bool → Type 0 → Type 0
+IsAsked true A = A
+IsAsked false A = ⊤
+
+-- where a fit binds
+abbrev pub IsFitted : Fit → List ℕ → ℕ → ℕ → Values → Type 0
+IsFitted fit controls len cap vs = IsAsked fit.binds (IsFilledSo fit controls len cap vs)
 
 -- what leads to a node leads to items
 abbrev pub HasItems : Values → Type 0

@@ -123,7 +123,7 @@ one_image_law t bytes others i k =
     let first = canonical_fitted bytes a.value a.regions a.visits i.canonical in
     let second = canonical_fitted others b.value b.regions b.visits k.canonical in
     let same : erased a.value ≡ erased b.value = one_value_law a.value t a.document a.denotes first ∙ sym (one_value_law b.value t a.document b.denotes second) in
-    written_once_law (first_fit text_hash) node_names bytes others node_shape a.value b.value
+    written_once_law (first_fit text_hash) node_names bytes others node_shape a.value b.value refl
     (record { regions = a.regions; visits = a.visits; canonical = i.canonical })
     (record { regions = b.regions; visits = b.visits; canonical = k.canonical })
     same
