@@ -29,7 +29,7 @@ use Rattle.archive_btree_layout.specs.Reading.{Place}
 use Rattle.archive_btree_layout.specs.Tree.{Tree, items}
 use Rattle.archive_btree_maps.specs.Lookups.{QueryOrders, QuerySays, HasKey}
 use Rattle.archive_btree_maps.specs.Maps.{IsMapAt, AreEntriesAt, IsEntryAt}
-use Rattle.archive_btree_maps.proofs.LookedUp.{ordered_search}
+use Rattle.archive_btree_maps.proofs.LookedUp.{ordered_search, one_entry}
 use Rattle.archive_btree_maps.proofs.ReadTree.{map_is_read}
 use Rattle.archive_btree.specs.Answering.{IsWrittenMap, HasEntry, KeysAscend, entry_with, FindsEntry, AnswersKeys}
 use Rattle.archive_btree_maps.specs.Descents.{DescendsTo}
@@ -215,6 +215,10 @@ module _ {A B R P : Type 0} (most : ℕ) (k v : Shape) (knows others : Names →
           map = m.map;
           walks = there;
           finds = finds;
+          found = λ query at d.
+              let orders = orders_of query ps es in
+              let same = one_entry key_of order bytes query one_key m.search_tree (descend orders m.search_tree) at (ordered_search key_of order bytes query orders m.search_tree (right query) (keys_there ps es there)) d in
+              subst (FindsEntry most k v knows others keys vals bytes key order es query) same (finds query orders (right query));
           has = λ query some.
               let orders = orders_of query ps es in
               let ends = entry_is_there query orders m.search_tree (entry_with most k v knows others keys vals bytes key order query es) some (finds query orders (right query)) in

@@ -19,7 +19,8 @@ use Rattle.archive_btree_spelling.specs.Maps.{btree_spelling}
 use Rattle.archive_btree_layout.specs.Descent.{descend}
 use Rattle.archive_btree_layout.specs.Reading.{Place}
 use Rattle.archive_btree_layout.specs.Tree.{Tree, items}
-use Rattle.archive_btree_maps.specs.Lookups.{QueryOrders, IsEqualKey, HasKey}
+use Rattle.archive_btree_maps.specs.Lookups.{QueryOrders, QuerySays, IsEqualKey, HasKey}
+use Rattle.archive_btree_maps.specs.Descents.{DescendsTo}
 use Rattle.archive_btree_maps.specs.Maps.{IsMapAt}
 
 module _ {A B R P : Type 0} (most : ℕ) (k v : Shape) (knows others : Names → Type 0) (keys : Spelling A R) (vals : Spelling B P) (bytes : List ℕ) where
@@ -61,5 +62,6 @@ module _ {A B R P : Type 0} (most : ℕ) (k v : Shape) (knows others : Names →
       pub map : IsMapAt bytes most k v pos search_tree
       pub walks : AllZip HasEntry (items search_tree) es
       pub finds : (query : Q) (orders : Place → Ordering) → QueryOrders key_of order bytes query orders (items search_tree) → FindsEntry es query (descend orders search_tree)
+      pub found : (query : Q) (at : Option Place) → DescendsTo (QuerySays key_of order bytes query) search_tree at → FindsEntry es query at
       pub has : (query : Q) → IsSome (entry_with query es) → HasKey key_of order bytes most k v pos query
       pub has_found : (query : Q) (at : Place) → Contains (items search_tree) at → IsEqualKey key_of order bytes query at → HasKey key_of order bytes most k v pos query

@@ -1,5 +1,5 @@
 //! Look-ups of keys in archived B-tree maps.
-ghost use Rattle.std.specs.Prelude.{◌≡◌, Some, IfSome};
+ghost use Rattle.std.specs.Prelude.{◌≡◌, ◌≤◌, ◌*◌, Some, IfSome};
 ghost use Rattle.archive_forms_values.specs.Parts.{HasValue};
 ghost use Rattle.archive_btree_maps.specs.Maps.{HasMap};
 ghost use Rattle.archive_btree_maps.specs.Refs.{IsThere, ref_at};
@@ -25,6 +25,7 @@ impl<K, V: Portable, const E: usize> ArchivedBTreeMap<K, V, E> {
         ensures found { FindsValue E K.shape V.shape K.key_of K.order this.entry query.now result.0 }
         ensures looks_up { LooksUpValue E K.shape V.shape K.key_of K.order this.entry query.now result.0 }
         ensures answers { AnswersValueCounted E K.shape V.shape K.key_of K.order this.entry query.now result }
+        ensures few { result.1.comparisons ≤ 32 * E }
         ensures searches { result.1.strides ≡ 0 }
     {
         let (found, comparisons) = search_key::<Q, K, V, E>(this.bytes, this.pos, query);

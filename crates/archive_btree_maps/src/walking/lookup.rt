@@ -1,4 +1,5 @@
 //! Look-ups of keys in archived B-tree maps by the positions of the maps.
+ghost use Rattle.std.specs.Prelude.{◌≤◌, ◌*◌};
 ghost use Rattle.archive_shape_layout.specs.Shape.Shape.{tree};
 ghost use Rattle.archive_forms_values.specs.Parts.{HasValue, both};
 ghost use Rattle.archive_btree_maps.specs.Maps.{IsMapAt};
@@ -22,6 +23,7 @@ pub fn search_map<K: Portable, V: Portable, F: Fn(usize) -> Ordering, const E: u
     ensures found { FindsAmong (IsMapAt bytes.now E K.shape V.shape pos) F.post compare.now result.0 }
     ensures descends { SearchesTo (IsMapAt bytes.now E K.shape V.shape pos) F.post compare.now result.0 }
     ensures answers { AnswersCounted (IsMapAt bytes.now E K.shape V.shape pos) F.post compare.now result }
+    ensures few { result.1 ≤ 32 * E }
 {
     match root_at::<K, V, E>(bytes, pos) {
         Some(root) => search_counted(bytes, root.pos, root.layout, compare),
@@ -40,6 +42,7 @@ pub fn search_key<Q, K: ArchivedKey<Q>, V: Portable, const E: usize>(
     ensures found { FindsPlace E K.shape V.shape K.key_of K.order bytes.now pos query.now result.0 }
     ensures descends { LooksUpPlace E K.shape V.shape K.key_of K.order bytes.now pos query.now result.0 }
     ensures answers { AnswersKeyCounted E K.shape V.shape K.key_of K.order bytes.now pos query.now result }
+    ensures few { result.1 ≤ 32 * E }
 {
     let compare = |at: usize| -> Ordering
         requires { K.is_key bytes.now at }

@@ -1,5 +1,5 @@
 //! The search for a key.
-ghost use Rattle.std.specs.Prelude.{ℕ, ◌+◌, ◌*◌, ◌^◌, ◌<◌};
+ghost use Rattle.std.specs.Prelude.{ℕ, ◌+◌, ◌*◌, ◌^◌, ◌<◌, ◌≤◌};
 ghost use Rattle.archive_btree_maps.specs.SearchingLayout.{IsTreeAt};
 ghost use Rattle.archive_btree_maps.specs.Searching.{IsSaid};
 ghost use Rattle.archive_btree_maps.specs.Calls.Searching.{AnswersCounted, AnswersPlace, CanSearch, FindsAmong, SearchesTo};
@@ -53,6 +53,7 @@ pub fn search_counted<F: Fn(usize) -> Ordering>(
     ensures found { FindsAmong (IsTreeAt bytes.now layout 1 root) F.post compare.now result.0 }
     ensures descends { SearchesTo (IsTreeAt bytes.now layout 1 root) F.post compare.now result.0 }
     ensures answers { AnswersCounted (IsTreeAt bytes.now layout 1 root) F.post compare.now result }
+    ensures few { result.1 ≤ 32 * layout.entries }
 {
     let _len = bytes.len();
     let mut pos = root;

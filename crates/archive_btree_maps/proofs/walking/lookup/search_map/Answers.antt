@@ -1,4 +1,4 @@
-use Rattle.std.proofs.Common.{◌≡◌, ◌-◌, ◌^◌, min, None, refl, sym, subst}
+use Rattle.std.proofs.Common.{◌≡◌, ◌≤◌, ◌*◌, ◌-◌, ◌^◌, min, None, refl, sym, subst}
 use Rattle.archive_btree_layout.specs.Descent.{descend, met}
 use Rattle.archive_btree_maps.specs.Descents.{DescendsTo}
 use Rattle.archive_btree_maps.proofs.Roots.{tree_of_value}
@@ -23,3 +23,6 @@ returns-in-Some-clause-descends g c t h = c.search_counted.ensures.descends t (c
 
 pub returns-in-None-clause-descends : goal.returns-in-None-clause-descends
 returns-in-None-clause-descends g c t h = subst (λ x. DescendsTo (λ e r. goal.F-post g c.args.compare.now e.key r) x None) (sym (c.in-None.ensures.tree t h)) refl
+
+pub returns-in-Some-clause-few : goal.returns-in-Some-clause-few
+returns-in-Some-clause-few g c = subst (λ n. c.search_counted.result.1 ≤ 32 * n) c.in-Some.ensures.leads.1.entries c.search_counted.ensures.few

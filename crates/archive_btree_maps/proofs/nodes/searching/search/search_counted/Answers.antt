@@ -1,4 +1,4 @@
-use Rattle.std.proofs.Common.{◌≡◌, ◌∙◌, ◌+◌, ◌*◌, ◌≤◌, suc, min, ap, sym, subst, refl, arith, mul-le-mul_right}
+use Rattle.std.proofs.Common.{◌≡◌, ◌∙◌, ◌+◌, ◌*◌, ◌≤◌, ◌<◌, ℕ, suc-mul, suc, min, ap, sym, subst, refl, arith, mul-le-mul_right}
 use Rattle.std.specs.Prelude.{Some, None, Contains}
 use Rattle.std.specs.declared.cmp.Ordering.{Ordering}
 use Rattle.std.specs.declared.cmp.Ordering.TheVariants.{Equal}
@@ -12,6 +12,17 @@ use Rattle.archive_btree_maps.proofs.NodeTree.{tree_level, tree_readable}
 use Rattle.archive_btree_maps.proofs.NodeSearch.{own_holds, child_stands, node_answers, found, missing, onward, ends_there, ends_nowhere, leads_to}
 use Rattle.archive_btree_maps.proofs.nodes.searching.search.search_counted.Goals as goal
 
+-- one level more
+next_few : (level entries : ℕ) → (level + 1) * entries ≡ level * entries + entries
+next_few level entries = let step : level + 1 ≡ suc level = omega arith in ap (λ n. n * entries) step ∙ suc-mul level entries
+
+-- what is compared on one level more, of at most 32
+all_few : (level entries before here all : ℕ) → level < 32 → before ≤ level * entries → here ≤ entries → all ≤ before + here → all ≤ 32 * entries
+all_few level entries before here all low f h s =
+    let most : (level + 1) * entries ≤ 32 * entries = mul-le-mul_right entries (omega (arith, low)) in
+    let step = next_few level entries in
+    omega (arith, f, h, s, most, step)
+
 pub loop-level-init : goal.loop-level-init
 loop-level-init g c =
     record {
@@ -19,6 +30,7 @@ loop-level-init g c =
       among = λ t h. (t, h, All-contains_itself (items t));
       descends = λ t h. (t, h, λ found ends. ends);
       leads = λ t order h orders. (t, 0, h, orders, refl, omega arith, omega arith);
+      few = omega arith;
     }
 
 pub entry_count-count-requires : goal.entry_count-count-requires
@@ -134,6 +146,10 @@ loop-level-preserved g c =
             omega (arith, r.5, f.count),
             omega (arith, c.saturating_add-compared.ensures, c.min.ensures, c.saturating_add-in-Before.ensures, c.entry_count-count.ensures, r.6),
           );
+      few =
+          let r = tree_readable bytes l level pos s.0 s.1 (omega arith) in
+          let more = next_few c.loop-level._level l.entries in
+          omega (arith, c.saturating_add-compared.ensures, c.min.ensures, c.saturating_add-in-Before.ensures, c.entry_count-count.ensures, r.count, c.loop-level.invariant.few, more);
     }
 
 pub returns : goal.returns
@@ -141,3 +157,17 @@ returns g c =
     let s = c.loop-level.invariant.stands in
     let within = tree_level c.args.bytes.now c.args.layout (c.loop-level._level + 1) c.loop-level.pos s.0 s.1 in
     absurd (omega arith)
+
+pub returns-in-Equals-clause-few : goal.returns-in-Equals-clause-few
+returns-in-Equals-clause-few g c =
+    let s = c.loop-level.invariant.stands in
+    let r = tree_readable c.args.bytes.now c.args.layout (c.loop-level._level + 1) c.loop-level.pos s.0 s.1 (omega arith) in
+    all_few c.loop-level._level c.args.layout.entries c.loop-level.compared (c.in-Equals.i + 1) _ (omega arith) c.loop-level.invariant.few
+    (omega (arith, c.in-Equals.ensures.0, c.entry_count-count.ensures, r.count)) (omega (arith, c.saturating_add.ensures))
+
+pub returns-in-None-clause-few : goal.returns-in-None-clause-few
+returns-in-None-clause-few g c =
+    let s = c.loop-level.invariant.stands in
+    let r = tree_readable c.args.bytes.now c.args.layout (c.loop-level._level + 1) c.loop-level.pos s.0 s.1 (omega arith) in
+    all_few c.loop-level._level c.args.layout.entries c.loop-level.compared (entry_count c.args.bytes.now c.args.layout c.loop-level.pos) _ (omega arith) c.loop-level.invariant.few
+    r.count (omega (arith, c.saturating_add-compared.ensures, c.min.ensures, c.saturating_add-in-Before.ensures, c.entry_count-count.ensures))

@@ -1,4 +1,4 @@
-use Rattle.std.proofs.Common.{◌≡◌, ◌+◌, ◌-◌, ◌^◌, ℕ, min, Option}
+use Rattle.std.proofs.Common.{◌≡◌, ◌+◌, ◌-◌, ◌^◌, ◌*◌, ◌≤◌, ℕ, min, Option}
 use Rattle.std.specs.Prelude.{All, Contains}
 use Rattle.std.specs.declared.cmp.Ordering.{Ordering}
 use Rattle.archive_btree_layout.specs.Tree.{Tree, items}
@@ -24,4 +24,5 @@ invariant-loop-level g l =
           (t : Tree Place) (order : Place → Ordering) → IsTreeAt l.bytes l.layout 1 l.root t → Orders (goal.F-post g) l.compare order (items t)
           → (u : Tree Place) × (n : ℕ) × IsTreeAt l.bytes l.layout (l._level + 1) l.pos u × Orders (goal.F-post g) l.compare order (items u) × (descend order t ≡ descend order u)
           × (met order t ≡ n + met order u) × (l.compared ≡ min n (2 ^ 64 - 1));
+      few : l.compared ≤ l._level * l.layout.entries;
     }
