@@ -663,6 +663,27 @@ bytes
 END
 finish
 
+# nothing that is accepted lies deeper
+stored 'a text under 64 keys, each at the end of a tree of 32 levels' \
+    "$innermost$(printf "$(tall_nodes 32 "06000000acfeffffa000000000000000")%.0s" {1..63})$(map -196 160)"
+maps --lines 1 << END
+         0         12 text    $(printf " '159%.0s" {1..64})
+.. and 2050 more
+
+nodes
+                10176 int
+                    1 text
+                   64 ordered
+                10241 in all
+bytes
+                   24 root
+               393216 trees
+                   12 texts
+                    4 unused
+               393256 in all
+END
+finish
+
 # ---- what a stranger left
 
 stored 'bytes that no field has, and some after the root' "$(with "$coffee" 188 aaaaaaaaaaaaaaaaaaaaaaaa)bbbbbbbbbbbbbb"

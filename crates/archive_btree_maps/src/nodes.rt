@@ -8,4 +8,4 @@ pub use searching::{EntryAt, EntryWalk, Range, Walk, search_counted, search_tree
 
 mod layout;
 
-pub use layout::NodeLayout;
+pub use layout::{NO_CHILD, NodeLayout};

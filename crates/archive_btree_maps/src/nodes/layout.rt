@@ -8,6 +8,9 @@ use archive_shape::Portable;
 /// The greatest number of levels of a tree; the root is on level 1.
 pub(crate) const MAX_LEVELS: usize = 32;
 
+/// The word of a pointer that leads to no child.
+pub const NO_CHILD: u32 = 1;
+
 /// The layout of a node: the offsets of its parts, in bytes from its first byte, their sizes in bytes, and their
 /// alignments. Offsets and sizes stop at `usize::MAX`, which no node in a buffer has.
 #[derive(Clone, Copy, Debug, PartialEq, Eq)]

@@ -14,12 +14,12 @@ use crate::mapping::region::RegionKind;
 use crate::mapping::summary::write_summary;
 use crate::mapping::tally::Tally;
 use archive_core_validation::root_position;
-use archive_shape::Ref;
+use archive_shape::{Portable, Ref};
 use archive_shape_layout::{Error, Writer};
 use cabinet_archived::ArchivedNode;
 
 /// The size of the root.
-const ROOT: usize = 24;
+const ROOT: usize = ArchivedNode::SIZE;
 
 /// Writes what follows the line of the last region of an archive of `len` bytes.
 fn write_end<W: Writer>(len: usize, tally: &mut Tally, writer: &mut W) -> Result<(), Error>

@@ -25,27 +25,25 @@ use crate::mapping::region::RegionKind;
 use crate::mapping::tally::Tally;
 use crate::mapping::texts::{write_shared, write_table, write_text};
 use crate::maps::{HashedMap, KeptMap, OrderedMap};
-use archive_btree_maps::nodes::NodeLayout;
+use archive_btree_maps::nodes::{NO_CHILD, NodeLayout};
 use archive_btree_maps::walking::count_at;
 use archive_forms_rc::{ArchivedRc, RcFlavor};
 use archive_forms_values::{
     ArchivedBox, ArchivedOption, ArchivedString, ArchivedVec, Entry, read_word, target_of,
 };
-use archive_shape::{ArchivedU32, Ref};
+use archive_hash_maps::ArchivedHashTable;
+use archive_shape::{ArchivedU32, Portable, Ref};
 use archive_shape_layout::{Error, Writer};
 use cabinet_archived::{ArchivedKind, ArchivedNode};
 
 /// The size of a node.
-const NODE: usize = 24;
+const NODE: usize = ArchivedNode::SIZE;
 
 /// The size of a pair of a hashed or a kept map.
-const PAIR: usize = 32;
+const PAIR: usize = Entry::<ArchivedString, ArchivedNode>::SIZE;
 
-/// Where a kept map has the pointer to its entries.
-const ENTRIES: usize = 12;
-
-/// The word of a pointer that leads to no child.
-const NO_CHILD: u32 = 1;
+/// Where a kept map has the pointer to its entries, which follows the table of their numbers.
+const ENTRIES: usize = ArchivedHashTable::<ArchivedU32>::SIZE;
 
 /// Returns the layout of the nodes of search trees.
 fn tree_layout() -> NodeLayout

@@ -37,11 +37,11 @@ pub(crate) fn write_text<W: Writer>(
         tally.old tally.new writer.old writer.new result }
     ensures counted { FailsByWriter W.Writer writer.old writer.new result }
 {
-    let start = ArchivedString::start_of(string);
-    let len = ArchivedString::len(string);
     if ArchivedStringRepr::is_inline(&string.bytes[string.pos..string.pos + 8]) {
         return Ok(());
     }
+    let start = ArchivedString::start_of(string);
+    let len = ArchivedString::len(string);
     write_region(start, len, kind, path, tally, writer)
 }
 

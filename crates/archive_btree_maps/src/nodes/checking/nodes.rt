@@ -9,12 +9,9 @@ ghost use Rattle.archive_btree_maps.specs.Calls.Checking.{CountsChild, CountsChi
 use crate::nodes::NodeLayout;
 use crate::nodes::checking::claim::claim_node;
 use crate::nodes::checking::entries::check_entries;
-use crate::nodes::layout::MAX_LEVELS;
+use crate::nodes::layout::{MAX_LEVELS, NO_CHILD};
 use archive_forms_values::{read_target, read_word};
 use archive_shape::{ArchiveContext, Error, Portable};
-
-/// The word of a pointer that leads to no child.
-const NO_CHILD: u32 = 1;
 
 /// Checks the leaf at `pos`, and returns the number of its entries.
 fn check_leaf<
