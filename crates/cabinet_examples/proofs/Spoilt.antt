@@ -27,7 +27,7 @@ spoilt {bytes = bytes} {others = others} {pos = pos} {from = from} {v = v} {w = 
     none : (u : Value) (us : List Region) (seen : List Visit) → IsArchive bytes pos u us seen → ⊥
     none u us seen a =
         let same = one_value node_names bytes v rs accepted.visits a.root.holds accepted.has_root.holds in
-        let whole : bytes ≡ others = one_archive_law (first_fit text_hash) node_names bytes others 0 pos from node_shape u w us qs seen visits a archive (ap erased same.value ∙ alike) in
+        let whole : bytes ≡ others = one_archive_law (first_fit text_hash) node_names bytes others 0 pos from node_shape u w us qs seen visits refl a archive (ap erased same.value ∙ alike) in
         numbers_differ bytes others differ whole
 
 marked_padding_accepted : HoldsDocument marked_padding_bytes 24 0 (number_value 5) (region 0 24 8 0 ∷ [])
