@@ -30,9 +30,10 @@ use Rattle.cabinet_documents.proofs.TreeWalks.{ItemsWalk, no_items, more_items}
 use Rattle.cabinet_archives.specs.Keyed.{knows_pairs}
 use Rattle.cabinet_archives.specs.declared.opening.refusal.OpenRefusal.{OpenRefusal}
 use Rattle.cabinet_archives.specs.declared.opening.refusal.OpenRefusal.TheVariants as refusal
-use Rattle.cabinet_archives.specs.Ordered.{map_shape}
+use Rattle.cabinet_archives.specs.Ordered.{map_shape, lead_to_leaves}
 use Rattle.cabinet_archives.specs.Sound.{Reports, Audits, HasHeight, AuditsTo}
 use Rattle.cabinet_archives.proofs.Heights.{AreAsHigh, flat_high, both_high, high_at, around_high, first_stays, flat_height, height_in, past_refused}
+use Rattle.cabinet_archives.proofs.LeafTags.{quiet_leaves}
 use Rattle.cabinet_archives.proofs.Walked.{Boxed, Inner, leaf_faults, none_faults, some_in, vector_in, map_in, whole_in}
 
 -- ---- faults one after another
@@ -379,13 +380,12 @@ module _ (bytes : Bor (List ℕ)) where
     tree = tree_of_value has
 
     -- at first all are
-    pub all_left : (ascends : Bool) (left : List (Ref ArchivedNode)) → ascends ≡ true
-        → ((depth : ℕ) (v : Value) (walk : List Stop) → Walks node_names bytes.now depth (at pos map_shape) v walk → ascends ≡ ascend (item_keys (members v)))
+    pub all_left : (left : List (Ref ArchivedNode))
+        → ((depth : ℕ) (v : Value) (walk : List Stop) → Walks node_names bytes.now depth (at pos map_shape) v walk → ascend (item_keys (members v)) ≡ true)
         → ((t : Tree Place) → IsMapAt bytes.now 5 text node_shape pos t → left ≡ map (value_at bytes) (items t))
         → IsLeft (at pos map_shape) 0 left
-    all_left ascends left is_up told values = λ depth v walk less w.
+    all_left left told values = λ depth v walk less w.
         let m = map_in bytes.now tree.map w in
-        let up = sym (told depth v walk w) ∙ is_up in
         record {
           places = items tree.search_tree;
           vs = members v;
@@ -397,8 +397,24 @@ module _ (bytes : Bor (List ℕ)) where
           faults_are =
               m.faults_are
               ∙ ap (λ b. unless b too_deep ++ (unless (ascend (item_keys (members v))) keys_not_ascending ++ flat_map (faults bytes.now) m.runs)) (lt-ltb depth 64 less)
-              ∙ ap (λ b. unless b keys_not_ascending ++ flat_map (faults bytes.now) m.runs) up;
+              ∙ ap (λ b. unless b keys_not_ascending ++ flat_map (faults bytes.now) m.runs) (told depth v walk w);
         }
+
+    -- a map of leaves has no others in it
+    pub leaves_height : ((depth : ℕ) (v : Value) (walk : List Stop) → Walks node_names bytes.now depth (at pos map_shape) v walk
+        → (ascend (item_keys (members v)) ≡ true) × (lead_to_leaves (members v) ≡ true)) → HasHeight bytes.now (at pos map_shape) 1
+    leaves_height told =
+        around_high bytes.now (at pos map_shape) 0
+        (λ depth v walk w.
+        let m = map_in bytes.now tree.map w in
+        let is = told depth v walk w in record {
+          rest = [];
+          faults_are =
+              m.faults_are
+              ∙ ap (λ b. unless (nat_lt depth 64) too_deep ++ (unless b keys_not_ascending ++ flat_map (faults bytes.now) m.runs)) is.0
+              ∙ ap (λ x. unless (nat_lt depth 64) too_deep ++ x) (quiet_leaves bytes.now m.items is.1);
+          high = λ less. flat_high (depth + 1) (omega (arith, less));
+        })
 
     pub own_of_map : (depth : ℕ) (v : Value) (walk : List Stop) → Walks node_names bytes.now depth (at pos map_shape) v walk → HasOwn bytes.now depth walk
     own_of_map depth v walk w =
@@ -406,16 +422,15 @@ module _ (bytes : Bor (List ℕ)) where
         record { rest = unless (ascend (item_keys (members v))) keys_not_ascending ++ flat_map (faults bytes.now) m.runs; faults_are = m.faults_are }
 
     -- keys that do not ascend are reported first
-    pub descending : (depth inner : ℕ) → inner ≡ depth + 1 → inner ≤ 64 → (ascends : Bool) → ascends ≡ false
-        → ((depth : ℕ) (v : Value) (walk : List Stop) → Walks node_names bytes.now depth (at pos map_shape) v walk → ascends ≡ ascend (item_keys (members v)))
+    pub descending : (depth inner : ℕ) → inner ≡ depth + 1 → inner ≤ 64
+        → ((depth : ℕ) (v : Value) (walk : List Stop) → Walks node_names bytes.now depth (at pos map_shape) v walk → ascend (item_keys (members v)) ≡ false)
         → Audits bytes.now depth (at pos map_shape) (Err refusal.KeysNotAscending)
-    descending depth inner deeper low ascends is_down told = λ v walk h.
+    descending depth inner deeper low told = λ v walk h.
         let m = map_in bytes.now tree.map h in
-        let down = sym (told depth v walk h) ∙ is_down in
         reports_as (Err refusal.KeysNotAscending)
         (m.faults_are
         ∙ ap (λ x. x ++ (unless (ascend (item_keys (members v))) keys_not_ascending ++ flat_map (faults bytes.now) m.runs)) (not_deep depth inner deeper low)
-        ∙ ap (λ b. unless b keys_not_ascending ++ flat_map (faults bytes.now) m.runs) down)
+        ∙ ap (λ b. unless b keys_not_ascending ++ flat_map (faults bytes.now) m.runs) (told depth v walk h))
         (keys_not_ascending, refl, refl)
 
     pub all_there : (left : List (Ref ArchivedNode)) → ((t : Tree Place) → IsMapAt bytes.now 5 text node_shape pos t → left ≡ map (value_at bytes) (items t)) → All (IsNodeOf bytes) left

@@ -26,6 +26,7 @@ mod KeysAsked
 mod KeysYielded
 mod Leading
 mod LeafPlaces
+mod LeafTags
 mod ListedRegions
 mod Listings
 mod Loaded

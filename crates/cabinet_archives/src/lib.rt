@@ -2,6 +2,7 @@
 #![tactic(auto)]
 
 mod asking;
+mod leaf;
 mod loading;
 mod mapping;
 mod maps;

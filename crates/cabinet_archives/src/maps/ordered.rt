@@ -1,4 +1,4 @@
-//! Ordered maps of archived nodes: whether their keys ascend, and the node of a key.
+//! Ordered maps of archived nodes: whether their keys ascend and their values are leaves, and the node of a key.
 ghost use Rattle.std.specs.Prelude.{◌≡◌, ℕ, true, List, IfSome, MatchOption};
 ghost use Rattle.std.specs.Option.{option_map};
 ghost use Rattle.archive_shape_layout.specs.Value.{Value};
@@ -6,14 +6,14 @@ ghost use Rattle.archive_shape_layout.specs.Content.{members};
 ghost use Rattle.archive_shape_layout.specs.Content.Part.{at};
 ghost use Rattle.archive_forms_values.specs.Parts.{HasValue};
 ghost use Rattle.cabinet_documents.specs.Node.{node_names, node_shape};
-ghost use Rattle.cabinet_documents.specs.Order.{ascend, is_below};
-ghost use Rattle.cabinet_documents.specs.Table.{item_keys};
+ghost use Rattle.cabinet_documents.specs.Order.{is_below};
 ghost use Rattle.cabinet_documents.specs.Walk.{Stop, Walks};
 ghost use Rattle.cabinet_archives.specs.Cost.{Compares};
 ghost use Rattle.cabinet_archives.specs.Keyed.{KeyLeads, KeyLeadsNowhere, OfMap, knows_pairs};
-ghost use Rattle.cabinet_archives.specs.Ordered.{HasEntry, map_shape};
+ghost use Rattle.cabinet_archives.specs.Ordered.{AreEntries, HasEntry, map_shape};
 ghost use Rattle.cabinet_archives.specs.Sound.{IsSoundPart};
 
+use crate::leaf::is_leaf;
 use archive_btree_maps::ArchivedBTreeMap;
 use archive_forms_values::ArchivedString;
 use archive_shape::{Ref, Steps};
@@ -32,22 +32,39 @@ fn is_above(key: &str, last: Option<&str>) -> bool
     }
 }
 
-/// Returns whether the keys of an ordered map ascend in the order of their bytes.
-pub(crate) fn keys_ascend(map: Ref<'_, OrderedMap>) -> bool
+/// What one walk over the entries of an ordered map finds.
+#[derive(Clone, Copy)]
+pub(crate) enum OrderedEntries {
+    /// A key is not above the one before it.
+    NotAscending,
+    /// The keys ascend, and no value is a container.
+    Leaves,
+    /// The keys ascend, and some value is a container.
+    Containers,
+}
+
+/// Returns whether the keys of an ordered map ascend in the order of their bytes, and if so whether all values are leaves.
+pub(crate) fn classify_entries(map: Ref<'_, OrderedMap>) -> OrderedEntries
     requires { HasValue map_shape knows_pairs map.bytes.now map.pos }
     ensures { (depth : ℕ) (v : Value) (walk : List Stop)
         → Walks node_names map.entry.bytes.now depth (at map.entry.pos map_shape) v walk
-        → result ≡ ascend (item_keys (members v)) }
+        → AreEntries result (members v) }
 {
     let mut last: Option<&str> = None;
-    for key in OrderedMap::keys(map) {
+    let mut leaves = true;
+    for (key, node) in OrderedMap::iter(map) {
         let text = ArchivedString::as_str(key);
         if !is_above(text, last) {
-            return false;
+            return OrderedEntries::NotAscending;
         }
         last = Some(text);
+        leaves &= is_leaf(node);
     }
-    true
+    if leaves {
+        OrderedEntries::Leaves
+    } else {
+        OrderedEntries::Containers
+    }
 }
 
 /// Returns the node of a key, if the map has the key, and how many keys were compared for it. Reads only the tree's nodes

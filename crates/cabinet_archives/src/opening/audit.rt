@@ -1,5 +1,5 @@
 //! The audit of an archived node: its first fault, where a node comes before the nodes in it, or its height.
-ghost use Rattle.std.specs.Prelude.{◌≡◌, ◌<◌, ◌≤◌, ◌+◌, ◌↔◌, IsTrue, IfOk, MatchResult, slice_index};
+ghost use Rattle.std.specs.Prelude.{◌≡◌, ◌<◌, ◌≤◌, ◌+◌, IfOk, MatchResult};
 ghost use Rattle.archive_shape_layout.specs.Shape.Shape.{option, box, vector};
 ghost use Rattle.archive_shape_layout.specs.Shape.Pointee.{sized};
 ghost use Rattle.archive_shape_layout.specs.Content.Part.{at};
@@ -12,7 +12,8 @@ ghost use Rattle.cabinet_archives.specs.Ordered.{map_shape};
 ghost use Rattle.cabinet_archives.specs.Sound.{AreHeights, AuditsTo};
 ghost use Rattle.cabinet_archives.specs.declared.opening.refusal.OpenRefusal.TheVariants as refusal;
 
-use crate::maps::{HashedMap, KeptMap, OrderedMap, hashed_sound, kept_sound, keys_ascend};
+use crate::leaf::is_leaf;
+use crate::maps::{HashedMap, KeptMap, OrderedEntries, OrderedMap, classify_entries, hashed_sound, kept_sound};
 use crate::opening::refusal::OpenRefusal;
 use archive_forms_rc::{ArchivedRc, RcFlavor};
 use archive_forms_values::{ArchivedBox, ArchivedOption, ArchivedVec};
@@ -21,25 +22,6 @@ use archive_shape::Ref;
 use cabinet_archived::{ArchivedKind, ArchivedNode};
 use cabinet_text_grammar::MAX_DEPTH;
 use std::collections::BTreeMap;
-
-/// Returns whether the node is no container. Callers ask this first, since most nodes are leaves.
-fn is_leaf(node: Ref<'_, ArchivedNode>) -> bool
-    requires { HasValue node_shape KnowsNode node.bytes.now node.pos }
-    ensures { IsTrue result ↔ (slice_index node.entry.bytes.now node.entry.pos ≤ 3) }
-{
-    match ArchivedNode::kind(node) {
-        ArchivedKind::Bool(_)
-        | ArchivedKind::Int(_)
-        | ArchivedKind::Text(_)
-        | ArchivedKind::Shared(_) => true,
-        ArchivedKind::Maybe(_)
-        | ArchivedKind::List(_)
-        | ArchivedKind::Ordered(_)
-        | ArchivedKind::Hashed(_)
-        | ArchivedKind::Kept(_)
-        | ArchivedKind::Whole(_) => false,
-    }
-}
 
 /// Returns the number of containers around the nodes of a container that lies inside `depth` containers.
 fn depth_inside(depth: usize) -> Result<usize, OpenRefusal>
@@ -116,8 +98,10 @@ fn audit_ordered<G: Scan>(
     ensures keeps { IfOk result (λ _. AreHeights map.entry.bytes.now heights.new) }
 {
     let inner = depth_inside(depth)?;
-    if !keys_ascend(map) {
-        return Err(OpenRefusal::KeysNotAscending);
+    match classify_entries(map) {
+        OrderedEntries::NotAscending => return Err(OpenRefusal::KeysNotAscending),
+        OrderedEntries::Leaves => return Ok(1),
+        OrderedEntries::Containers => {}
     }
     let mut height = 0;
     for node in OrderedMap::values(map) {

@@ -13,7 +13,7 @@ use Rattle.cabinet_archives.specs.Sound.{HasHeight}
 use Rattle.cabinet_archives.proofs.Tags.{tag_is}
 use Rattle.cabinet_archives.proofs.Walked.{Boxed, payload_in}
 use Rattle.cabinet_archives.proofs.Heights.{height_as, refuses_as, heights_as, kept_height, max_is}
-use Rattle.cabinet_archives.proofs.Auditing.{own_reported, deep_option, deep_list, deep_whole, around_found, boxed_there, behind_tag, value_as, element_there, elements_of, leaf_height, none_height, some_height, some_refused, whole_height, whole_refused, refused_on, found_in, AreHighBefore, node_part, none_before, high_on, refused_at, list_height, list_refused, IsNodeOf, IsLeft, all_there, all_left, own_of_map, descending, left_height}
+use Rattle.cabinet_archives.proofs.Auditing.{own_reported, deep_option, deep_list, deep_whole, around_found, boxed_there, behind_tag, value_as, element_there, elements_of, leaf_height, none_height, some_height, some_refused, whole_height, whole_refused, refused_on, found_in, AreHighBefore, node_part, none_before, high_on, refused_at, list_height, list_refused, IsNodeOf, IsLeft, all_there, all_left, own_of_map, leaves_height, descending, left_height}
 use Rattle.cabinet_archives.proofs.HashedAuditing.{own_of as own_of_table, unsound, all_nodes, all_left as table_left}
 use Rattle.cabinet_archives.proofs.KeptAuditing.{own_of as own_of_index, unsound as unsound_kept, all_nodes as kept_nodes, all_left as kept_left}
 use Rattle.cabinet_archives.proofs.MapsAuditing.{first_node, heights_first, node_passed, leaf_passed, node_refused}
@@ -242,10 +242,15 @@ audit_ordered-returns-in_err-inner-clause-height g t c =
     let says = c.in_err-inner.ensures in
     rw (p.1, p.2) (inr (λ v walk w. own_reported c.args.map.bytes.now c.args.depth _ walk says.0 says.1 (own_of_map c.args.map.bytes c.args.map.pos c.requires.has c.args.depth v walk w)))
 
-pub audit_ordered-returns-then-not-keys_ascend-clause-height : goal.audit_ordered-returns-then-not-keys_ascend-clause-height
-audit_ordered-returns-then-not-keys_ascend-clause-height g t c =
+pub audit_ordered-returns-in-NotAscending-clause-height : goal.audit_ordered-returns-in-NotAscending-clause-height
+audit_ordered-returns-in-NotAscending-clause-height g t c =
     let says = c.in_ok-inner.ensures in
-    inr (descending c.args.map.bytes c.args.map.pos c.requires.has c.args.depth c.in_ok-inner.inner says.0 says.1 c.keys_ascend.result c.if-not-keys_ascend.true c.keys_ascend.ensures)
+    inr (descending c.args.map.bytes c.args.map.pos c.requires.has c.args.depth c.in_ok-inner.inner says.0 says.1 c.in-NotAscending.ensures)
+
+pub audit_ordered-returns-in-Leaves-clause-height : goal.audit_ordered-returns-in-Leaves-clause-height
+audit_ordered-returns-in-Leaves-clause-height g t c =
+    let says = c.in_ok-inner.ensures in
+    (omega (arith, says.0, says.1), leaves_height c.args.map.bytes c.args.map.pos c.requires.has c.in-Leaves.ensures)
 
 pub audit_ordered-loop-node-init : goal.audit_ordered-loop-node-init
 audit_ordered-loop-node-init g t c =
@@ -257,7 +262,7 @@ audit_ordered-loop-node-init g t c =
       there = subst (All (IsNodeOf map.bytes)) (sym gives) (all_there map.bytes map.pos c.requires.has _ c.values-node-items.ensures);
       left_of =
           subst (IsLeft map.bytes (at map.pos map_shape) 0) (sym gives)
-          (all_left map.bytes map.pos c.requires.has c.keys_ascend.result _ c.if-not-keys_ascend.false c.keys_ascend.ensures c.values-node-items.ensures);
+          (all_left map.bytes map.pos c.requires.has _ (λ depth v walk w. (c.in-Containers.ensures depth v walk w).0) c.values-node-items.ensures);
       low = omega (arith, low);
       kept = c.requires.kept;
     }

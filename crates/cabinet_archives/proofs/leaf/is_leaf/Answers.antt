@@ -1,7 +1,7 @@
 use Rattle.std.proofs.Common.{⊎_elim, arith}
 use Rattle.cabinet_archived.specs.declared.kind.ArchivedKind.TheVariants as kind
 use Rattle.cabinet_archives.proofs.Tags.{kind_is, leaf_is, container_is}
-use Rattle.cabinet_archives.proofs.opening.audit.is_leaf.Goals as goal
+use Rattle.cabinet_archives.proofs.leaf.is_leaf.Goals as goal
 
 pub returns-in-Bool : goal.returns-in-Bool
 returns-in-Bool c =
