@@ -52,17 +52,9 @@ impl Archive for Player {
             pos,
             ..
         } = out;
-        let end = match resolve_field(&self.level, (), out, start, pos, 0) {
-            Ok(end) => end,
-            Err(e) => return Err(e),
-        };
-        let end = match resolve_field(&self.name, resolver.1, out, start, pos, end) {
-            Ok(end) => end,
-            Err(e) => return Err(e),
-        };
-        if let Err(e) = resolve_field(&self.scores, resolver.2, out, start, pos, end) {
-            return Err(e);
-        }
+        let end = resolve_field(&self.level, (), out, start, pos, 0)?;
+        let end = resolve_field(&self.name, resolver.1, out, start, pos, end)?;
+        resolve_field(&self.scores, resolver.2, out, start, pos, end)?;
         Ok(())
     }
 
@@ -81,17 +73,9 @@ impl<S: Writer + Allocator> Serialize<S> for Player {
         &self,
         serializer: &mut S,
     ) -> Result<((), StringResolver, Option<VecResolver>), Error> {
-        if let Err(e) = self.level.serialize(serializer) {
-            return Err(e);
-        }
-        let name = match self.name.serialize(serializer) {
-            Ok(name) => name,
-            Err(e) => return Err(e),
-        };
-        let scores = match self.scores.serialize(serializer) {
-            Ok(scores) => scores,
-            Err(e) => return Err(e),
-        };
+        self.level.serialize(serializer)?;
+        let name = self.name.serialize(serializer)?;
+        let scores = self.scores.serialize(serializer)?;
         Ok(((), name, scores))
     }
 }
