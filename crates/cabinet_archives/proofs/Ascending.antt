@@ -104,7 +104,7 @@ module _ (bytes : Bor (List ℕ)) (pos : ℕ) (has : HasValue map_shape knows_pa
   -- ---- and all entries
 
   module _ (left : List Entry) (are : (t : Tree Place) → IsMapAt bytes.now 5 text node_shape pos t → left ≡ map (λ e. entry_at bytes e) (items t)) where
-    entries_at : List Place → List Entry
+    abbrev entries_at : List Place → List Entry
     entries_at ps = map (λ e. entry_at bytes e) ps
 
     each_there : (ps : List Place) (ws : Values) → AreEntriesAt text node_shape (λ _. ⊤) KnowsNode bytes.now ps ws → All IsEntryThere (entries_at ps)

@@ -13,7 +13,9 @@ ghost use Rattle.cabinet_archives.specs.Sound.{AreHeights, AuditsTo};
 ghost use Rattle.cabinet_archives.specs.declared.opening.refusal.OpenRefusal.TheVariants as refusal;
 
 use crate::leaf::is_leaf;
-use crate::maps::{HashedMap, KeptMap, OrderedEntries, OrderedMap, classify_entries, hashed_sound, kept_sound};
+use crate::maps::{
+    HashedMap, KeptMap, OrderedEntries, OrderedMap, classify_entries, hashed_sound, kept_sound,
+};
 use crate::opening::refusal::OpenRefusal;
 use archive_forms_rc::{ArchivedRc, RcFlavor};
 use archive_forms_values::{ArchivedBox, ArchivedOption, ArchivedVec};
