@@ -32,7 +32,7 @@ use Rattle.archive_forms_laws.specs.Links.{link_bytes, LinkFits}
 use Rattle.archive_btree_spelling.specs.Written.{entry_spelling}
 use Rattle.archive_btree_spelling.specs.Maps.{packed_spelling, btree_spelling}
 use Rattle.archive_btree_spelling.proofs.Levels.{levels_of_words}
-use Rattle.archive_btree_spelling.proofs.Slots.{EachEntrySpells}
+use Rattle.archive_btree_spelling.proofs.Slots.{EachEntrySpells, entries_unshared}
 use Rattle.archive_btree_spelling.proofs.Trees.{TreeSpells, count_keys_alone}
 use Rattle.archive_btree_spelling.proofs.Forest.{packed_spells}
 use Rattle.archive_shape_layout.proofs.Windows.{word_within}
@@ -158,6 +158,7 @@ module _ {A B R Q : Type 0} (fit : Fit) (most : ℕ) (k v : Shape) (knows : Name
       own_bytes = λ r pos f. bytes_append (link_bytes r pos) (to_le_bytes w32 (length xs)) (link_small r pos) (bytes_word (length xs));
       piece_exact = packed_one.piece_exact;
       own_exact = λ r pos e f g. refused r pos e f g;
+      unshared = entries_unshared fit most k v knows keys vals xs each;
     }
       where
         refused : (r : Option ℕ) (pos : ℕ) (e : Error) → (btree_spelling most k v keys vals).own_fits xs r pos → (btree_spelling most k v keys vals).own_refused xs r pos e → ⊥
@@ -186,6 +187,7 @@ module _ {A B R Q : Type 0} (fit : Fit) (most : ℕ) (k v : Shape) (knows : Name
     own_bytes = λ r pos f. bytes_append (link_bytes r pos) (to_le_bytes w32 0) (link_small r pos) (bytes_word 0);
     piece_exact = λ st e f g. absurd g;
     own_exact = λ r pos e f g. refused r pos e f g;
+    unshared = λ none given. tt;
   }
     where
       -- where nothing is written the state stays

@@ -1,5 +1,5 @@
 -- What lies in the slots of a node is read as it is written.
-use Rattle.std.proofs.Common.{◌≡◌, ℕ, ◌+◌, ◌*◌, ◌≤◌, List, [], ◌∷◌, ◌++◌, refl, length, sym, ap, subst, ◌∙◌, arith, inl, inr, ⊎_elim, length-append}
+use Rattle.std.proofs.Common.{◌≡◌, ℕ, false, ◌||◌, ◌+◌, ◌*◌, ◌≤◌, List, [], ◌∷◌, ◌++◌, refl, length, sym, ap, subst, ◌∙◌, arith, inl, inr, ⊎_elim, length-append}
 use Rattle.std.specs.Prelude.{⊤}
 use Rattle.archive_shape_layout.specs.Shape.{Shape, size_of}
 use Rattle.archive_shape_layout.specs.Shape.Shape.{tuple}
@@ -11,13 +11,14 @@ use Rattle.archive_shape_layout.specs.Content.Label.{whole}
 use Rattle.archive_shape_layout.specs.Content.Content.{plain}
 use Rattle.archive_shape_layout.specs.Holds.{OpenShared}
 use Rattle.archive_shape_layout.specs.Holds.Holds.{holds_plain}
-use Rattle.archive_shape_canonical.specs.Settled.{Fit}
+use Rattle.archive_shape_canonical.specs.Settled.{Fit, free}
 use Rattle.archive_shape_canonical.proofs.Cleanness.{clean_by}
 use Rattle.archive_shape.specs.Bytes.{HasBytes}
 use Rattle.archive_shape.proofs.Pieces.{stands_left, stands_right}
 use Rattle.archive_forms_laws.specs.State.{State, Keys, visits_of, IsConsistent, AllFrom, AreKeyedBy}
 use Rattle.archive_forms_laws.specs.Spelling.{Spelling, state_after}
 use Rattle.archive_forms_laws.specs.Spells.{CanonicalPart, SpellsAt, EachSpells}
+use Rattle.archive_forms_laws.specs.Unshared.{holds_shared}
 use Rattle.archive_forms_laws.specs.Regions.{state_after_all, values, all_suit, pieces, pieces_fit}
 use Rattle.archive_shape_canonical.specs.Canonical.{AreBytes}
 use Rattle.archive_shape_layout.specs.declared.error.Error.{Error}
@@ -25,6 +26,7 @@ use Rattle.archive_forms_laws.proofs.States.{from_earlier}
 use Rattle.archive_forms_laws.proofs.Gaps.{bytes_none, bytes_append}
 use Rattle.archive_forms_laws.proofs.Regions.{CanonicalParts, no_parts, more_parts, state_after_all_pos}
 use Rattle.archive_forms_laws.proofs.Fields.{tuple2_spells_at}
+use Rattle.archive_forms_laws.proofs.Unshared.{each_unshared, pair_unshared}
 use Rattle.archive_btree_spelling.specs.Written.{slots, AllSlots, AnySlot, entry_spelling, key_own, value_own}
 
 module _ {A B R Q : Type 0} (fit : Fit) (most : ℕ) (k v : Shape) (knows : Names → Type 0) (keys : Spelling A R) (vals : Spelling B Q) where
@@ -39,6 +41,10 @@ module _ {A B R Q : Type 0} (fit : Fit) (most : ℕ) (k v : Shape) (knows : Name
   pub pairs_spell : (xs : List (A × B)) → EachEntrySpells xs → EachSpells fit pair_shape knows (entry_spelling most k v keys vals) xs
   pairs_spell [] each = tt
   pairs_spell (x ∷ xs) each = (tuple2_spells_at fit knows k keys v vals x each.0.0 each.0.1, pairs_spell xs each.1)
+
+  -- they suit the fit that binds nothing where neither keys nor values hold a shared pointer
+  pub entries_unshared : (xs : List (A × B)) → EachEntrySpells xs → (holds_shared k || holds_shared v) ≡ false → (given : Keys) → all_suit (entry_spelling most k v keys vals) free given xs
+  entries_unshared xs each none = each_unshared fit pair_shape knows (entry_spelling most k v keys vals) xs (pairs_spell xs each) (pair_unshared k v none)
 
   abbrev pub KeysFit : List (A × B) → State → ℕ → Type 0
   KeysFit es st pos = AllSlots (state_after (entry_spelling most k v keys vals)) (size_of k) (λ x then here. keys.own_fits x.0 (keys.resolver x.0 then) here) es st pos

@@ -1,5 +1,5 @@
 -- What is written of pairs has a packed tree of them.
-use Rattle.std.proofs.Common.{false, ◌≡◌, ◌∙◌, ℕ, List, [], ◌∷◌, length, Some, refl, ap, sym, subst, arith}
+use Rattle.std.proofs.Common.{◌≡◌, ◌∙◌, ℕ, List, [], ◌∷◌, length, Some, refl, ap, sym, subst, arith}
 use Rattle.archive_shape_layout.specs.Shape.{Shape}
 use Rattle.archive_shape_layout.specs.Shape.Shape.{tree}
 use Rattle.archive_shape_layout.specs.Shape.Pointee.{sized}
@@ -13,7 +13,7 @@ use Rattle.archive_shape_layout.specs.Holds.Holds.{holds_plain, holds_claimed, h
 use Rattle.archive_shape_layout.specs.Holds.HoldAll.{holds_none, holds_more}
 use Rattle.archive_shape_layout.specs.Visited.{ClaimedAfter}
 use Rattle.archive_shape_layout.proofs.Visited.{claimed_raised, claimed_front, claimed_inside, claimed_first}
-use Rattle.archive_shape_canonical.specs.Settled.{Fit}
+use Rattle.archive_shape_canonical.specs.Settled.{free}
 use Rattle.archive_shape_canonical.specs.Everywhere.{reaches_here, reaches_claimed, reaches_first}
 use Rattle.archive_shape_canonical.proofs.Steps.{count_members}
 use Rattle.archive_btree_layout.specs.Tree.{items}
@@ -104,10 +104,6 @@ map_is_packed {A} {B} {R} {Q} most k v keys vals fit names pairs bytes some item
           }
     ]
 
--- tables are no part of these maps, so any fit will do
-no_fit : Fit
-no_fit = record { binds = false; capacity = λ n. n; table_controls = λ vs. []; table_items = λ vs. vs; map_controls = λ vs. []; map_numbers = λ vs. [] }
-
 pub maps_are_packed_law : MapsArePacked
 maps_are_packed_law names xs bytes some f e =
-    map_is_packed 5 number_shape number_shape number_spelling number_spelling no_fit names xs bytes (omega arith) some (maps_are_written_law no_fit names xs bytes f e)
+    map_is_packed 5 number_shape number_shape number_spelling number_spelling free names xs bytes (omega arith) some (maps_are_written_law free names xs bytes f e)

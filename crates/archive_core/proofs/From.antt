@@ -1,13 +1,13 @@
 -- What is written as a root, from any position on, is read there, and is the one archive of its value where no two keys
 -- denote one shared value.
-use Rattle.std.proofs.Common.{◌≡◌, ℕ, ◌+◌, ◌-◌, ◌%◌, ◌*◌, List, [], ◌∷◌, ◌++◌, take, length, length-append, sym, ap, subst, ◌∙◌, arith, inr, ⊎_elim}
+use Rattle.std.proofs.Common.{◌≡◌, ℕ, ◌+◌, ◌-◌, ◌%◌, ◌*◌, ◌<◌, ◌^◌, None, List, [], ◌∷◌, ◌++◌, take, length, length-append, sym, ap, subst, ◌∙◌, arith, inr, ⊎_elim}
 use Rattle.std.proofs.lemmas.Bool.{cases_lt}
 use Rattle.std.proofs.lemmas.List.{take_all, get_or_past}
 use Rattle.std.proofs.Math.Seq.{drop-append_seam}
 use Rattle.archive_shape_layout.specs.Shape.{Shape, size_of, align_of}
 use Rattle.archive_shape_layout.specs.Content.{Names}
 use Rattle.archive_shape_layout.specs.Holds.{Ascends, HasRoot, root_position}
-use Rattle.archive_shape_canonical.specs.Settled.{Fit}
+use Rattle.archive_shape_canonical.specs.Settled.{Fit, free}
 use Rattle.archive_shape_canonical.specs.Canonical.{CanonicalArchive, AreBytes}
 use Rattle.archive_shape.specs.Bytes.{HasBytes}
 use Rattle.archive_shape_layout.proofs.Evaluated.{ascends_lowered}
@@ -19,7 +19,8 @@ use Rattle.archive_forms_laws.proofs.Aligning.{starts_aligned}
 use Rattle.archive_forms_laws.proofs.Regions.{boxed_canonical, region_end, region_bytes}
 use Rattle.archive_forms_laws.proofs.Gaps.{bytes_append}
 use Rattle.archive_forms_laws.proofs.Written.{are_distinct}
-use Rattle.archive_core.specs.Written.{from_position, IsWrittenFrom, root_piece, root_fits}
+use Rattle.archive_core_validation.proofs.Unlimited.{unlimited_law}
+use Rattle.archive_core.specs.Written.{from_position, IsWrittenFrom, IsAcceptedUnshared, root_piece, root_fits}
 
 pub written_from : {A R : Type 0} (fit : Fit) (s : Shape) (knows : Names → Type 0) (w : Spelling A R) (x : A) (names : Names) (keys : Keys) (front bytes : List ℕ) (start : ℕ)
     → Spells fit s knows w → knows names → w.suits fit keys x
@@ -68,3 +69,23 @@ written_from fit s knows w x names keys front bytes start spells k n f long are_
   where
     take_all_behind : (xs ys : List ℕ) → HasBytes (xs ++ ys) (length xs) ys
     take_all_behind xs ys = ap (λ bs. take (length ys) bs) (drop-append_seam xs ys) ∙ take_all (length ys) ys (omega arith)
+
+-- there are fewer than 2^64 bytes
+short_from : {A R : Type 0} (fit : Fit) (s : Shape) (knows : Names → Type 0) (w : Spelling A R) (x : A) (front bytes : List ℕ) (start : ℕ)
+    → Spells fit s knows w → root_fits s w x start → length front ≡ start → bytes ≡ front ++ root_piece s w x start → length bytes < 2 ^ 64
+short_from fit s knows w x front bytes start spells f long e =
+    let st : State = from_position start in
+    let piece = root_piece s w x start in
+    let same : length bytes ≡ start + length piece = ap length e ∙ length-append front piece ∙ ap (λ m. m + length piece) long in
+    let end : start + length piece ≡ region_at w s (x ∷ []) st + 1 * size_of s = region_end fit s knows w (x ∷ []) (spells x, tt) st f in
+    let last = f.2.0.1 in
+    omega (arith, same, end, last)
+
+-- they are accepted where no value of the type holds a shared pointer
+pub accepted_from : {A R : Type 0} (s : Shape) (knows : Names → Type 0) (w : Spelling A R) (x : A) (front bytes : List ℕ) (start : ℕ)
+    → ((fit : Fit) → Spells fit s knows w)
+    → root_fits s w x start → length front ≡ start → AreBytes front → bytes ≡ front ++ root_piece s w x start → IsAcceptedUnshared s knows bytes
+accepted_from s knows w x front bytes start spells f long are e none names known =
+    let keys : Keys = λ key. None in
+    let made = written_from free s knows w x names keys front bytes start (spells free) known ((spells free x).unshared none keys) f long are e in
+    unlimited_law names bytes s (root_position (length bytes) s) _ made.regions made.visits (short_from free s knows w x front bytes start (spells free) f long e) made.root

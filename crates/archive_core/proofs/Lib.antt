@@ -2,3 +2,4 @@ pub mod Apart
 pub mod From
 pub mod Joined
 pub mod Laid
+pub mod Unshared

@@ -1,6 +1,7 @@
 -- What is written as the root of an archive, from any position on.
-use Rattle.std.specs.Prelude.{◌≡◌, ℕ, ◌∷◌, [], List, length, IsTrue, Result, MatchResult, ◌⊎◌}
+use Rattle.std.specs.Prelude.{◌≡◌, ℕ, ◌∷◌, [], List, length, IsTrue, false, Result, MatchResult, ◌⊎◌}
 use Rattle.archive_shape_layout.specs.Shape.{Shape}
+use Rattle.archive_shape_layout.specs.Value.{Value}
 use Rattle.archive_shape_layout.specs.Content.{Names}
 use Rattle.archive_shape_layout.specs.Holds.{Region, Visit, HasRoot, root_position}
 use Rattle.archive_shape_canonical.specs.Settled.{Fit}
@@ -14,6 +15,9 @@ use Rattle.archive_forms_laws.specs.State.{State, Keys, AreOneToOne}
 use Rattle.archive_forms_laws.specs.Spelling.{Spelling}
 use Rattle.archive_forms_laws.specs.Regions.{region_piece, region_fits, region_refused}
 use Rattle.archive_forms_laws.specs.Serializing.{Stopped}
+use Rattle.archive_forms_laws.specs.Unshared.{holds_shared}
+use Rattle.archive_core_validation.specs.Depth.{unlimited}
+use Rattle.archive_core_validation.specs.Access.{IsAccepted}
 
 -- the next byte has this position, and no shared value was written
 abbrev pub from_position : ℕ → State
@@ -62,6 +66,19 @@ module _ {A R W : Type 0} (s : Shape) (w : Spelling A R) (m : WriterMembers W) (
       → w.suits fit keys x
       → IsWrittenFrom (m.pos old) s w x fit names keys (m.contents new)
 
+-- where no value of a shape holds a shared pointer, bytes are accepted as an archive of it, without a limit of depth
+abbrev pub IsAcceptedUnshared : Shape → (Names → Type 0) → List ℕ → Type 0
+IsAcceptedUnshared s knows bytes =
+    holds_shared s ≡ false → (names : Names) → knows names → IsAccepted names bytes s (root_position (length bytes) s) unlimited
+
+-- so are those that a writer then holds, where its position counts all the bytes that it holds
+abbrev pub HoldsAccepted : {W : Type 0} → Shape → WriterMembers W → W → (Names → Type 0) → W → Type 0
+HoldsAccepted s m old knows new =
+    IsTrue m.OBSERVABLE
+    → length (m.contents old) ≡ m.pos old
+    → AreBytes (m.contents old)
+    → IsAcceptedUnshared s knows (m.contents new)
+
 module _ {A R : Type 0} (s : Shape) where
   -- the contract of a call that archives a value in memory: the bytes are those of a root at the start of an archive;
   -- otherwise an allocation failed, or a limit is exceeded
@@ -76,3 +93,12 @@ module _ {A R : Type 0} (s : Shape) where
       → knows names
       → w.suits fit keys x
       → IsWrittenFrom 0 s w x fit names keys bytes
+
+  -- the contract of a call that reads back bytes that archiving a value made, where no value of the type holds a shared
+  -- pointer: the result is what the value itself is read back as, and the only error is `OutOfMemory`
+  abbrev pub ReadsUnshared : (Names → Type 0) → Spelling A R → (Value → A → Type 0) → List ℕ → Result A Error → Type 0
+  ReadsUnshared knows w reads bytes result =
+      holds_shared s ≡ false
+      → (x : A)
+      → MadeArchive knows w x bytes
+      → MatchResult result (reads (w.plain x)) (λ e. e ≡ OutOfMemory)

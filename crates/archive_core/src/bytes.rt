@@ -1,6 +1,6 @@
 //! The writing of values as whole archives.
 ghost use Rattle.std.specs.Prelude.{◌≡◌, ℕ, ◌-◌, ◌^◌, ◌<◌, IfOk};
-ghost use Rattle.archive_core.specs.Written.{ArchivesIn, HoldsArchive, MakesBytes, MadeArchive};
+ghost use Rattle.archive_core.specs.Written.{ArchivesIn, HoldsAccepted, HoldsArchive, IsAcceptedUnshared, MakesBytes, MadeArchive};
 
 use archive_core_serializing::{HighSerializer, Serializer, Share};
 use archive_forms_writing::{Serialize, serialize_using};
@@ -17,6 +17,7 @@ pub fn to_bytes_in_with_alloc<
     requires room { W.failures writer < 2 ^ 64 - 1 }
     ensures writes { ArchivesIn T.Archived.shape T.spelling W.Writer value.now writer result }
     ensures archive { IfOk result (HoldsArchive T.Archived.shape T.spelling W.Writer value.now writer T.Archived.knows) }
+    ensures accepted { IfOk result (HoldsAccepted T.Archived.shape W.Writer writer T.Archived.knows) }
 {
     let sharing = Share::new(allocator.memory());
     let mut serializer = Serializer::new(writer, allocator, sharing);
@@ -34,6 +35,7 @@ pub fn to_bytes_in<T: Serialize<HighSerializer<W, Global>>, W: Writer + Drop>(
     requires room { W.failures writer < 2 ^ 64 - 1 }
     ensures writes { ArchivesIn T.Archived.shape T.spelling W.Writer value.now writer result }
     ensures archive { IfOk result (HoldsArchive T.Archived.shape T.spelling W.Writer value.now writer T.Archived.knows) }
+    ensures accepted { IfOk result (HoldsAccepted T.Archived.shape W.Writer writer T.Archived.knows) }
 {
     to_bytes_in_with_alloc::<T, W, Global>(value, writer, alloc)
 }
@@ -47,6 +49,8 @@ pub fn to_bytes_with_alloc<T: Serialize<HighSerializer<Vec<u8>, A>>, A: Allocato
 ) -> Result<Vec<u8>, Error>
     ensures bytes { MakesBytes T.Archived.shape T.spelling value.now (λ bytes. bytes.items) result }
     ensures archive { IfOk result (λ bytes. MadeArchive T.Archived.shape T.Archived.knows T.spelling value.now bytes.items) }
+    ensures accepted { IfOk result (λ bytes.
+        IsAcceptedUnshared T.Archived.shape T.Archived.knows bytes.items) }
 {
     to_bytes_in_with_alloc::<T, Vec<u8>, A>(value, Vec::new(alloc), allocator)
 }
@@ -58,6 +62,8 @@ pub fn to_bytes<T: Serialize<HighSerializer<Vec<u8>, Global>>>(
 ) -> Result<Vec<u8>, Error>
     ensures bytes { MakesBytes T.Archived.shape T.spelling value.now (λ bytes. bytes.items) result }
     ensures archive { IfOk result (λ bytes. MadeArchive T.Archived.shape T.Archived.knows T.spelling value.now bytes.items) }
+    ensures accepted { IfOk result (λ bytes.
+        IsAcceptedUnshared T.Archived.shape T.Archived.knows bytes.items) }
 {
     to_bytes_with_alloc::<T, Global>(alloc, value, alloc)
 }

@@ -1,5 +1,5 @@
 //! The laws of archives and of all their parts. Each is a function without a body, whose contract is the law.
-ghost use Rattle.archive_core.specs.Laws.{WrittenIsAccepted, ReadBackIsWritten, KeysStandApart};
+ghost use Rattle.archive_core.specs.Laws.{WrittenIsAccepted, ReadBackIsWritten, UnsharedSuits, UnsharedIsAccepted, UnsharedIsReadBack, KeysStandApart};
 
 pub use archive_core_validation::{nesting_is_bounded, unlimited_is_no_limit};
 pub use archive_forms::laws::{
@@ -35,6 +35,23 @@ pub fn read_back_is_written<T: Archive>()
 where
     T::Archived: ReadBack<T>,
     ensures { ReadBackIsWritten T.Archived.shape T.Archived.knows T.spelling T.Archived.reads }
+{}
+
+/// Where no value of the archived type holds a shared pointer, each value suits the fit that binds nothing.
+pub fn unshared_suits<T: Archive>()
+    ensures { UnsharedSuits T.Archived.shape T.Archived.knows T.spelling }
+{}
+
+/// `access` accepts what `to_bytes` writes of such a value, except for `OutOfMemory`, with however many tables in it.
+pub fn unshared_is_accepted<T: Archive>()
+    ensures { UnsharedIsAccepted T.Archived.shape T.Archived.knows T.spelling }
+{}
+
+/// What `from_bytes` reads back from it is what the value that was written is read back as.
+pub fn unshared_is_read_back<T: Archive>()
+where
+    T::Archived: ReadBack<T>,
+    ensures { UnsharedIsReadBack T.Archived.shape T.Archived.knows T.spelling T.Archived.reads }
 {}
 
 /// Shared values with different keys have different positions, after the data of a value is written from a state in

@@ -6,6 +6,7 @@ ghost use Rattle.archive_forms_values.specs.Parts.{HasValue};
 ghost use Rattle.archive_forms.specs.Deserializing.{Deserializes, IsReadAt};
 ghost use Rattle.archive_core_validation.specs.Depth.{unlimited};
 ghost use Rattle.archive_core_validation.specs.Access.{Decides};
+ghost use Rattle.archive_core.specs.Written.{ReadsUnshared};
 
 use archive_core_validation::{HighValidator, access};
 use archive_forms::{Deserialize, Deserializer};
@@ -35,6 +36,8 @@ where
         → Decides names bytes.now T.Archived.shape (root_position (length bytes.now) T.Archived.shape) unlimited result }
     ensures value { IfOk result (IsReadAt T.Archived.reads T.Archived.shape T.Archived.knows bytes.now
         (root_position (length bytes.now) T.Archived.shape)) }
+    ensures written { ReadsUnshared T.Archived.shape T.Archived.knows T.spelling T.Archived.reads
+        bytes.now result }
 {
     let root = access::<T::Archived>(alloc, bytes)?;
     deserialize::<T, T::Archived>(alloc, &root)

@@ -1,9 +1,10 @@
 //! Tests of values as whole archives.
-ghost use Rattle.std.specs.Prelude.{◌≢◌, IfOk, MatchResult};
+ghost use Rattle.std.specs.Prelude.{◌≡◌, ◌≢◌, false, IfOk, MatchResult};
 ghost use Rattle.archive_shape_layout.specs.Content.{Names};
 ghost use Rattle.archive_shape_layout.specs.declared.error.Error.TheVariants.{OutOfMemory};
 ghost use Rattle.archive_shape_canonical.specs.Settled.{Fit};
 ghost use Rattle.archive_forms_laws.specs.State.{Keys};
+ghost use Rattle.archive_forms_laws.specs.Unshared.{holds_shared};
 
 mod own_struct;
 mod written;
@@ -37,7 +38,7 @@ where
 }
 
 /// Archives a value and reads it back. What was archived is accepted, and read back as the value is, whichever of its
-/// keys denote equal values.
+/// keys denote equal values; where no value of the type holds a shared pointer, there are no keys to know.
 pub(crate) fn archived_and_read<T: Serialize<HighSerializer<Vec<u8>, Global>>>(
     alloc: Global,
     value: &T,
@@ -48,6 +49,9 @@ where
     ensures read { (fit : Fit) (keys : Keys) → T.spelling.suits fit keys value.now
         → IfOk result (λ read. MatchResult read (T.Archived.reads (T.spelling.plain value.now))
         (λ e. e ≢ OutOfMemory → ⊥)) }
+    ensures unshared { holds_shared T.Archived.shape ≡ false
+        → IfOk result (λ read. MatchResult read (T.Archived.reads (T.spelling.plain value.now))
+        (λ e. e ≡ OutOfMemory)) }
 {
     let bytes = match to_bytes(alloc, value) {
         Ok(bytes) => bytes,

@@ -23,6 +23,7 @@ use Rattle.archive_forms_laws.specs.Arrays.{array_own, array_own_fits, array_own
 use Rattle.archive_forms_laws.proofs.States.{consistent_further}
 use Rattle.archive_forms_laws.proofs.Gaps.{bytes_none, bytes_append}
 use Rattle.archive_forms_laws.proofs.Regions.{OwnsPass, elements_canonical, pieces_bytes, pieces_exact, state_after_all_begun, state_after_all_consistent, state_after_all_keyed, state_after_all_pos}
+use Rattle.archive_forms_laws.proofs.Unshared.{each_unshared}
 use Rattle.archive_forms_laws.proofs.Views.{each_spells}
 
 -- the layout leaves no choice at elements
@@ -122,6 +123,7 @@ module _ {A R : Type 0} (fit : Fit) (n : ℕ) (s : Shape) (knows : Names → Typ
       own_bytes = λ rs pos f. array_own_bytes xs each rs pos f.2;
       piece_exact = λ st e f r. pieces_exact fit s knows w xs each st e f.1 r;
       own_exact = λ rs pos e f k. array_own_exact xs each rs pos e f.2 k;
+      unshared = each_unshared fit s knows w xs each;
     }
 
   -- so of all arrays

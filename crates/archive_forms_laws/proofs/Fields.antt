@@ -1,6 +1,6 @@
 -- Tuples and structs are read as they are written.
-use Rattle.std.proofs.Common.{◌≡◌, ℕ, ◌+◌, ◌-◌, ◌≤◌, ◌<◌, List, [], ◌∷◌, ◌++◌, refl, length, slice_index, sym, ap, ap₂, subst, arith, add-zero, length-append, ◌⊎◌, inl, inr, ⊎_elim}
-use Rattle.std.proofs.lemmas.Bool.{cases_lt}
+use Rattle.std.proofs.Common.{◌≡◌, ℕ, false, ◌+◌, ◌-◌, ◌≤◌, ◌<◌, List, [], ◌∷◌, ◌++◌, refl, length, slice_index, sym, ap, ap₂, subst, arith, add-zero, length-append, ◌⊎◌, inl, inr, ⊎_elim}
+use Rattle.std.proofs.lemmas.Bool.{cases_lt, or_parts}
 use Rattle.std.proofs.lemmas.List.{length-replicate}
 use Rattle.archive_shape_layout.specs.Bytes.{align_up}
 use Rattle.archive_shape_layout.specs.Shape.{Shape, Shapes, size_of, align_of, fields_end}
@@ -16,7 +16,7 @@ use Rattle.archive_shape_layout.specs.Content.Content.{plain}
 use Rattle.archive_shape_layout.specs.Holds.{OpenShared}
 use Rattle.archive_shape_layout.specs.Holds.Holds.{holds_plain}
 use Rattle.archive_shape_layout.proofs.Framed.{le_align_up}
-use Rattle.archive_shape_canonical.specs.Settled.{Fit, LeadsSettled}
+use Rattle.archive_shape_canonical.specs.Settled.{Fit, LeadsSettled, free}
 use Rattle.archive_shape_canonical.specs.Sharing.{all_erased}
 use Rattle.archive_shape_canonical.specs.Clean.{InParts, IsIn, FieldPartOrZero}
 use Rattle.archive_shape_canonical.proofs.Cleanness.{clean_by}
@@ -28,6 +28,7 @@ use Rattle.archive_forms_laws.specs.Spelling.{Spelling, state_after}
 use Rattle.archive_forms_laws.specs.Spells.{CanonicalPart, SpellsAt, Spells}
 use Rattle.archive_shape_canonical.specs.Canonical.{AreBytes}
 use Rattle.archive_forms_laws.specs.Forms.{seen_as, kept_as}
+use Rattle.archive_forms_laws.specs.Unshared.{holds_shared, any_holds_shared}
 use Rattle.archive_forms_laws.specs.Fields.{FieldsSpelling, no_fields, more_fields, struct_spelling, unit_spelling, tuple1_spelling, tuple2_spelling, tuple3_spelling, tuple4_spelling}
 use Rattle.archive_forms_laws.proofs.States.{consistent_advanced, consistent_further, from_earlier}
 use Rattle.archive_forms_laws.proofs.Gaps.{bytes_none, bytes_append, bytes_zeros}
@@ -63,6 +64,7 @@ pub record FieldsSpellAt {A R : Type 0} (fit : Fit) (knows : Names → Type 0) (
   pub own_bytes : (r : R) (pos offset : ℕ) → fs.own_fits x r pos offset → AreBytes (fs.own x r pos offset)
   pub piece_exact : (st : State) (e : Error) → fs.piece_fits x st → fs.piece_refused x st e → ⊥
   pub own_exact : (r : R) (pos offset : ℕ) (e : Error) → fs.own_fits x r pos offset → fs.own_refused x r pos offset e → ⊥
+  pub unshared : any_holds_shared fs.shapes ≡ false → (keys : Keys) → fs.suits free keys x
 
 -- fields end within the struct
 pub struct_room : (ss : Shapes) → fields_end ss 0 ≤ size_of (tuple ss)
@@ -89,6 +91,7 @@ module _ (fit : Fit) (knows : Names → Type 0) where
     own_bytes = λ r pos offset f. bytes_none;
     piece_exact = λ st e f r. r;
     own_exact = λ r pos offset e f k. k;
+    unshared = λ none keys. tt;
   }
 
   module _ {A B R Q : Type 0} (s : Shape) (w : Spelling A R) (others : FieldsSpelling B Q) where
@@ -200,6 +203,9 @@ module _ (fit : Fit) (knows : Names → Type 0) where
         own_exact = λ r pos offset e f k.
             let from = align_up offset (align_of s) in
             ⊎_elim (one.own_exact r.0 (pos + from) e f.0) (rest.own_exact r.1 pos (from + size_of s) e f.1) k;
+        unshared = λ none keys.
+            let parts = or_parts (holds_shared s) (any_holds_shared others.shapes) none in
+            (one.unshared parts.0 keys, rest.unshared parts.1 keys);
       }
 
   -- ---- structs
@@ -286,6 +292,7 @@ module _ (fit : Fit) (knows : Names → Type 0) where
       own_bytes = λ r pos f. bytes_append (fs.own x r pos 0) _ (all.own_bytes r pos 0 f) (bytes_zeros _);
       piece_exact = all.piece_exact;
       own_exact = λ r pos e f k. all.own_exact r pos 0 e f k;
+      unshared = all.unshared;
     }
 
   -- so of every struct

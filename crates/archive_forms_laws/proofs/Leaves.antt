@@ -95,4 +95,5 @@ leaf_spells fit s knows bytes_of value_of l x = record {
   own_bytes = λ r pos f. f.2;
   piece_exact = λ st e h k. k;
   own_exact = λ r pos e h k. k;
+  unshared = λ none keys. tt;
 }

@@ -1,5 +1,5 @@
 -- Values of types that hold themselves are read as they are written.
-use Rattle.std.proofs.Common.{◌≡◌, ℕ, zero, suc, ◌+◌, ◌≤◌, ◌<◌, [], ◌∷◌, Some, refl, sym, subst, ◌∙◌, arith, inl, inr}
+use Rattle.std.proofs.Common.{◌≡◌, ℕ, zero, suc, ◌+◌, ◌≤◌, ◌<◌, [], ◌∷◌, Some, true≢false, refl, sym, subst, ◌∙◌, arith, inl, inr}
 use Rattle.archive_shape_layout.specs.Bytes.{align_up}
 use Rattle.archive_shape_layout.specs.Shape.{Shape, Alignment, alignment_bytes, size_of, align_of}
 use Rattle.archive_shape_layout.specs.Shape.Shape.{named, option, box}
@@ -43,6 +43,7 @@ module _ (s : Shape) (name size : ℕ) (align : Alignment) (size_is : size_of s 
     own_bytes = law.own_bytes;
     piece_exact = law.piece_exact;
     own_exact = law.own_exact;
+    unshared = λ none. absurd (true≢false none);
   }
 
 module _ {A R : Type 0} (fit : Fit) (s : Shape) (knows : Names → Type 0) (one : Spelling A R → Spelling A R) (none : Spelling A R) (below : A → ℕ)
@@ -64,4 +65,5 @@ module _ {A R : Type 0} (fit : Fit) (s : Shape) (knows : Names → Type 0) (one 
         own_bytes = h.own_bytes;
         piece_exact = h.piece_exact;
         own_exact = h.own_exact;
+        unshared = h.unshared;
       }

@@ -28,5 +28,6 @@ pub mod SpellingResults
 pub mod States
 pub mod TextContent
 pub mod Texts
+pub mod Unshared
 pub mod Views
 pub mod Written

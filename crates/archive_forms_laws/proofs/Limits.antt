@@ -23,6 +23,7 @@ module _ {A R : Type 0} (fit : Fit) (s : Shape) (knows : Names → Type 0) (has_
     own_bytes = λ r pos f. one.own_bytes r pos f.1;
     piece_exact = one.piece_exact;
     own_exact = λ r pos e f k. exact r pos e f k;
+    unshared = one.unshared;
   }
     where
       exact : (r : R) (pos : ℕ) (e : Error) → (limited has_room refusal w).own_fits x r pos → (limited has_room refusal w).own_refused x r pos e → ⊥

@@ -95,13 +95,14 @@ module _ {A R : Type 0} (fit : Fit) (s : Shape) (knows : Names → Type 0) (w : 
     own_bytes = none_bytes;
     piece_exact = λ st e f r. r;
     own_exact = none_exact;
+    unshared = λ none keys. tt;
   }
 
   -- ---- with a value
 
   module _ (x : A) (one : SpellsAt fit s knows w x) where
     some_payload : SpellsAt fit (option s) knows (payload_spelling 1 (payload_at s) (size_of (option s)) w) x
-    some_payload = payload_spells_at fit s (option s) knows w 1 (payload_at s) (omega arith) tag_first (option_room s (size_of s) refl) refl some_content (λ bytes pos. tt) x one
+    some_payload = payload_spells_at fit s (option s) knows w 1 (payload_at s) (omega arith) tag_first (option_room s (size_of s) refl) refl some_content (λ bytes pos. tt) (λ none. none) x one
 
     some_sized : (r : Option R) (pos : ℕ) → option_own_fits s w (Some x) r pos → length (option_own s w (Some x) r pos) ≡ size_of (option s)
     some_sized (Some r) pos f = some_payload.sized r pos f
@@ -126,6 +127,7 @@ module _ {A R : Type 0} (fit : Fit) (s : Shape) (knows : Names → Type 0) (w : 
       own_bytes = some_bytes;
       piece_exact = some_payload.piece_exact;
       own_exact = some_exact;
+      unshared = some_payload.unshared;
     }
 
   pub option_spells : Spells fit s knows w → Spells fit (option s) knows (option_spelling s w)

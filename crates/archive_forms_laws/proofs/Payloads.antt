@@ -1,5 +1,5 @@
 -- Values after a tag are read as they are written.
-use Rattle.std.proofs.Common.{◌≡◌, ℕ, zero, suc, Some, ◌+◌, ◌-◌, ◌≤◌, ◌<◌, List, [], ◌∷◌, ◌++◌, length, length-append, slice_index, refl, sym, ap, subst, ◌∙◌, arith, ◌⊎◌, inl, inr, ⊎_elim}
+use Rattle.std.proofs.Common.{◌≡◌, ℕ, zero, suc, false, Some, ◌+◌, ◌-◌, ◌≤◌, ◌<◌, List, [], ◌∷◌, ◌++◌, length, length-append, slice_index, refl, sym, ap, subst, ◌∙◌, arith, ◌⊎◌, inl, inr, ⊎_elim}
 use Rattle.std.proofs.lemmas.Bool.{cases_lt}
 use Rattle.std.proofs.lemmas.List.{length-replicate}
 use Rattle.archive_shape_layout.specs.Bytes.{window, align_up}
@@ -27,6 +27,8 @@ use Rattle.archive_forms_laws.specs.Options.{tagged_bytes}
 use Rattle.archive_forms_laws.specs.Payloads.{payload_spelling}
 use Rattle.archive_forms_laws.proofs.Gaps.{bytes_more, bytes_append, bytes_zeros}
 use Rattle.archive_forms_laws.proofs.Pointers.{one_part}
+use Rattle.archive_forms_laws.specs.Unshared.{holds_shared}
+use Rattle.archive_forms_laws.proofs.Unshared.{payload_unshared}
 
 -- a tag and a payload take `size` bytes
 pub length-tagged : (tag offset size : ℕ) (payload : List ℕ) → 1 ≤ offset → offset + length payload ≤ size → length (tagged_bytes tag offset size payload) ≡ size
@@ -81,6 +83,7 @@ module _ {A R : Type 0} (fit : Fit) (s whole : Shape) (knows : Names → Type 0)
     (small : tag < 256) (first : 1 ≤ offset) (room : offset + size_of s ≤ size_of whole) (one_field : field_size whole ≡ 1)
     (content : (names : Names) (pos : ℕ) (own : List ℕ) → slice_index own 0 ≡ tag → shape_content names pos own whole ≡ plain (tagged tag) (at (pos + offset) s ∷ []))
     (filled : (bytes : List ℕ) (pos : ℕ) → IsFilled bytes (at pos whole) (plain (tagged tag) (at (pos + offset) s ∷ [])))
+    (none_in : holds_shared whole ≡ false → holds_shared s ≡ false)
     (x : A) (one : SpellsAt fit s knows w x) where
   -- it takes the size of the whole
   payload_sized : (r : R) (pos : ℕ) → w.own_fits x r (pos + offset) → length ((payload_spelling tag offset (size_of whole) w).own x r pos) ≡ size_of whole
@@ -124,6 +127,7 @@ module _ {A R : Type 0} (fit : Fit) (s whole : Shape) (knows : Names → Type 0)
     own_bytes = λ r pos f. tagged_are_bytes tag offset (size_of whole) (w.own x r (pos + offset)) small (one.own_bytes r (pos + offset) f);
     piece_exact = one.piece_exact;
     own_exact = λ r pos e f k. one.own_exact r (pos + offset) e f k;
+    unshared = λ none. one.unshared (none_in none);
   }
 
 -- ---- variants of an enum
@@ -146,4 +150,4 @@ pub variant_spells_at : {A R : Type 0} (fit : Fit) (ss : Shapes) (tag : ℕ) (s 
 variant_spells_at fit ss tag s knows w small is =
     let up = le_align_up (payloads_end ss) (aligns_of ss) in
     let room = variant_room ss tag s is in
-    payload_spells_at fit s (choice ss) knows w tag (align_up 1 (align_of s)) small (le_align_up 1 (align_of s)) (omega arith) refl (variant_content ss tag s is) (λ bytes pos. tt)
+    payload_spells_at fit s (choice ss) knows w tag (align_up 1 (align_of s)) small (le_align_up 1 (align_of s)) (omega arith) refl (variant_content ss tag s is) (λ bytes pos. tt) (payload_unshared ss tag s is)

@@ -33,6 +33,8 @@ use Rattle.archive_forms_laws.specs.Pointers.{slice_spelling, box_spelling}
 use Rattle.archive_forms_laws.proofs.States.{from_earlier, consistent_further}
 use Rattle.archive_forms_laws.proofs.Gaps.{bytes_append, bytes_word}
 use Rattle.archive_forms_laws.proofs.Regions.{slice_canonical, boxed_canonical, region_exact, region_bytes, region_end, region_up, state_after_all_consistent, state_after_all_keyed, state_after_all_begun}
+use Rattle.archive_forms_laws.specs.Unshared.{holds_shared}
+use Rattle.archive_forms_laws.proofs.Unshared.{each_unshared}
 use Rattle.archive_forms_laws.proofs.Views.{each_spells}
 use Rattle.archive_shape_layout.proofs.Windows.{word_within}
 
@@ -141,6 +143,7 @@ module _ {A R : Type 0} (fit : Fit) (s : Shape) (knows : Names → Type 0) (w : 
       (content : (names : Names) (bytes : List ℕ) (from to n : ℕ) → FitsOffset from to → n < 2 ^ 32 → HasBytes bytes from (offset_bytes from to ++ to_le_bytes w32 n)
       → content_of names bytes (at from form) ≡ plain same (behind to (slice s) n ∷ []))
       (filled : (bytes : List ℕ) (from to n : ℕ) → IsFilled bytes (at from form) (plain same (behind to (slice s) n ∷ [])))
+      (none_in : holds_shared form ≡ false → holds_shared s ≡ false)
       (xs : List A) (each : EachSpells fit s knows w xs) where
     -- it is read as it is written
     listed_canonical :
@@ -177,14 +180,15 @@ module _ {A R : Type 0} (fit : Fit) (s : Shape) (knows : Names → Type 0) (w : 
       own_bytes = λ to pos f. bytes_append (offset_bytes pos to) (to_le_bytes w32 (length xs)) (bytes_word (cast_unsigned w32 (difference pos to))) (bytes_word (length xs));
       piece_exact = λ st e f r. region_exact fit s knows w xs each st e f r;
       own_exact = λ to from e f r. slice_own_exact (length xs) from to e f.1 f.0 r;
+      unshared = λ none. each_unshared fit s knows w xs each (none_in none);
     }
 
   -- so in vectors and in boxes of elements
   pub slice_spells_at : (xs : List A) → EachSpells fit s knows w xs → SpellsAt fit (vector s) knows (slice_spelling s w) xs
-  slice_spells_at = listed_spells_at (vector s) refl refl vector_content (λ bytes from to n. tt)
+  slice_spells_at = listed_spells_at (vector s) refl refl vector_content (λ bytes from to n. tt) (λ none. none)
 
   pub boxed_slice_spells_at : (xs : List A) → EachSpells fit s knows w xs → SpellsAt fit (box (slice s)) knows (slice_spelling s w) xs
-  boxed_slice_spells_at = listed_spells_at (box (slice s)) refl refl boxed_slice_content (λ bytes from to n. tt)
+  boxed_slice_spells_at = listed_spells_at (box (slice s)) refl refl boxed_slice_content (λ bytes from to n. tt) (λ none. none)
 
   -- the law of a box is that of its value
   pub box_spells_at : (x : A) → SpellsAt fit s knows w x → SpellsAt fit (box (sized s)) knows (box_spelling s w) x
@@ -206,6 +210,7 @@ module _ {A R : Type 0} (fit : Fit) (s : Shape) (knows : Names → Type 0) (w : 
     own_bytes = λ to pos f. bytes_word (cast_unsigned w32 (difference pos to));
     piece_exact = λ st e f r. region_exact fit s knows w (x ∷ []) (one, tt) st e f r;
     own_exact = λ to from e f r. r.0 f;
+    unshared = one.unshared;
   }
 
   -- so of all lists and boxes

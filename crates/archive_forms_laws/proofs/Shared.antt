@@ -1,5 +1,5 @@
 -- Shared values are read as they are written: the first time and each later time.
-use Rattle.std.proofs.Common.{◌≡◌, ℕ, ◌+◌, ◌≤◌, ◌<◌, ◌==◌, cond, Bool, true, false, List, [], ◌∷◌, ◌++◌, length, refl, sym, ap, ap₂, subst, ◌∙◌, arith, Option, Some, None, inl, inr, ⊎_elim, length-append, add-zero, eq-eqb, slice_index, le_refl}
+use Rattle.std.proofs.Common.{◌≡◌, ℕ, ◌+◌, ◌≤◌, ◌<◌, ◌==◌, cond, Bool, true, false, true≢false, List, [], ◌∷◌, ◌++◌, length, refl, sym, ap, ap₂, subst, ◌∙◌, arith, Option, Some, None, inl, inr, ⊎_elim, length-append, add-zero, eq-eqb, slice_index, le_refl}
 use Rattle.std.proofs.lemmas.Bool.{cases_lt}
 use Rattle.std.proofs.lemmas.List.{length-replicate}
 use Rattle.archive_shape_layout.specs.Shape.{Shape, Pointee}
@@ -212,6 +212,7 @@ module _ {A : Type 0} (fit : Fit) (cyclic : Bool) (q : Pointee) (knows : Names �
       own_bytes = one.own_bytes;
       piece_exact = λ st e f r. shared_exact st (visit_of_key st.met (key x)) e f r;
       own_exact = one.own_exact;
+      unshared = λ none. absurd (true≢false none);
     }
 
 -- ---- values, elements and texts

@@ -1,6 +1,7 @@
 -- Results are read as they are written.
 use Rattle.std.proofs.Common.{◌≡◌, ℕ, ◌+◌, ◌≤◌, max, List, [], ◌∷◌, length, slice_index, refl, arith, Ok, Err}
 use Rattle.std.specs.Prelude.{Result}
+use Rattle.std.proofs.lemmas.Bool.{or_parts}
 use Rattle.std.proofs.lemmas.List.{length-replicate}
 use Rattle.archive_shape_layout.specs.Shape.{Shape, size_of, align_of}
 use Rattle.archive_shape_layout.specs.Shape.Shape.{result}
@@ -13,6 +14,7 @@ use Rattle.archive_shape_canonical.specs.Settled.{Fit}
 use Rattle.archive_shape_layout.specs.declared.error.Error.{Error}
 use Rattle.archive_forms_laws.specs.Spelling.{Spelling}
 use Rattle.archive_forms_laws.specs.Spells.{SpellsAt, Spells}
+use Rattle.archive_forms_laws.specs.Unshared.{holds_shared}
 use Rattle.archive_shape_canonical.specs.Canonical.{AreBytes}
 use Rattle.archive_forms_laws.specs.Results.{result_payload_at, ok_spelling, err_spelling, result_own, result_own_fits, result_own_refused, result_spelling}
 use Rattle.archive_forms_laws.proofs.Gaps.{bytes_zeros}
@@ -38,7 +40,7 @@ module _ {A B R Q : Type 0} (fit : Fit) (s t : Shape) (knows : Names → Type 0)
   -- what follows speaks of resolvers of both kinds: beside one of the other kind there are zeros
   module _ (x : A) (one : SpellsAt fit s knows w x) where
     ok_payload : SpellsAt fit (result s t) knows (ok_spelling s t w u) x
-    ok_payload = let room = result_room s t in payload_spells_at fit s (result s t) knows w 0 (result_payload_at s t) (omega arith) (result_payload_first s t) (omega arith) refl ok_content (λ bytes pos. tt) x one
+    ok_payload = let room = result_room s t in payload_spells_at fit s (result s t) knows w 0 (result_payload_at s t) (omega arith) (result_payload_first s t) (omega arith) refl ok_content (λ bytes pos. tt) (λ none. (or_parts (holds_shared s) (holds_shared t) none).0) x one
 
     ok_sized : (r : Result R Q) (pos : ℕ) → result_own_fits s t w u (Ok x) r pos → length (result_own s t w u (Ok x) r pos) ≡ size_of (result s t)
     ok_sized (Ok r) pos f = ok_payload.sized r pos f
@@ -63,11 +65,12 @@ module _ {A B R Q : Type 0} (fit : Fit) (s t : Shape) (knows : Names → Type 0)
       own_bytes = ok_bytes;
       piece_exact = ok_payload.piece_exact;
       own_exact = ok_exact;
+      unshared = ok_payload.unshared;
     }
 
   module _ (y : B) (one : SpellsAt fit t knows u y) where
     err_payload : SpellsAt fit (result s t) knows (err_spelling s t w u) y
-    err_payload = let room = result_room s t in payload_spells_at fit t (result s t) knows u 1 (result_payload_at s t) (omega arith) (result_payload_first s t) (omega arith) refl err_content (λ bytes pos. tt) y one
+    err_payload = let room = result_room s t in payload_spells_at fit t (result s t) knows u 1 (result_payload_at s t) (omega arith) (result_payload_first s t) (omega arith) refl err_content (λ bytes pos. tt) (λ none. (or_parts (holds_shared s) (holds_shared t) none).1) y one
 
     err_sized : (r : Result R Q) (pos : ℕ) → result_own_fits s t w u (Err y) r pos → length (result_own s t w u (Err y) r pos) ≡ size_of (result s t)
     err_sized (Ok r) pos f = length-replicate _ _
@@ -92,6 +95,7 @@ module _ {A B R Q : Type 0} (fit : Fit) (s t : Shape) (knows : Names → Type 0)
       own_bytes = err_bytes;
       piece_exact = err_payload.piece_exact;
       own_exact = err_exact;
+      unshared = err_payload.unshared;
     }
 
   pub result_spells : Spells fit s knows w → Spells fit t knows u → Spells fit (result s t) knows (result_spelling s t w u)

@@ -209,6 +209,7 @@ module _ (fit : Fit) (t : List ℕ) where
     own_bytes = λ to pos f. text_own_bytes (is_short t) to pos f.0;
     piece_exact = λ st e f r. text_piece_exact (is_short t) st.pos e f.1 r;
     own_exact = λ to pos e f r. text_own_exact (is_short t) to pos e f.1 r;
+    unshared = λ none keys. tt;
   }
 
   -- ---- boxes of texts
@@ -237,6 +238,7 @@ module _ (fit : Fit) (t : List ℕ) where
     own_bytes = λ to pos f. bytes_append (offset_bytes pos to) (to_le_bytes w32 (length t)) (bytes_word (cast_unsigned w32 (difference pos to))) (bytes_word (length t));
     piece_exact = λ st e f r. let h = r.0 in let g = f.1 in omega arith;
     own_exact = λ to pos e f r. slice_own_exact (length t) pos to e f.1 f.0 r;
+    unshared = λ none keys. tt;
   }
 
 -- so of all texts

@@ -25,6 +25,7 @@ seen_spells_at fit s knows view w x one = record {
   own_bytes = one.own_bytes;
   piece_exact = one.piece_exact;
   own_exact = one.own_exact;
+  unshared = one.unshared;
 }
 
 pub seen_spells : {A B R : Type 0} (fit : Fit) (s : Shape) (knows : Names → Type 0) (view : B → A) (w : Spelling A R) → Spells fit s knows w → Spells fit s knows (seen_as view w)
@@ -45,6 +46,7 @@ kept_spells_at {R = R} fit s knows make get back w x one = record {
   own_bytes = λ r pos f. one.own_bytes (get r) pos f;
   piece_exact = one.piece_exact;
   own_exact = λ r pos e f k. one.own_exact (get r) pos e f k;
+  unshared = one.unshared;
 }
 
 pub kept_spells : {A R Q : Type 0} (fit : Fit) (s : Shape) (knows : Names → Type 0) (make : R → Q) (get : Q → R) (back : (r : R) → get (make r) ≡ r) (w : Spelling A R)
@@ -64,6 +66,7 @@ known_spells_at fit s knows fewer among w x one = record {
   own_bytes = one.own_bytes;
   piece_exact = one.piece_exact;
   own_exact = one.own_exact;
+  unshared = one.unshared;
 }
 
 pub known_spells : {A R : Type 0} (fit : Fit) (s : Shape) (knows fewer : Names → Type 0) (among : (names : Names) → fewer names → knows names) (w : Spelling A R)

@@ -22,5 +22,6 @@ pub mod State
 pub mod Taking
 pub mod Text
 pub mod Texts
+pub mod Unshared
 pub mod Views
 pub mod Written

@@ -1,12 +1,12 @@
 -- That what is written is what the layout reads, and is canonical.
-use Rattle.std.specs.Prelude.{◌≡◌, ℕ, ◌≤◌, ◌<◌, List, [], ◌∷◌, length, slice_index, Some, ◌⊎◌, ⊤}
+use Rattle.std.specs.Prelude.{◌≡◌, ℕ, ◌≤◌, ◌<◌, List, [], ◌∷◌, length, slice_index, Some, false, ◌⊎◌, ⊤}
 use Rattle.archive_shape_layout.specs.Bytes.{window, word_at, target_from}
 use Rattle.archive_shape_layout.specs.Shape.{Shape, Pointee, size_of, pointer_size}
 use Rattle.archive_shape_layout.specs.Value.{Value}
 use Rattle.archive_shape_layout.specs.Content.{Names, Part, pointee_length}
 use Rattle.archive_shape_layout.specs.Content.Part.{at, behind}
 use Rattle.archive_shape_layout.specs.Holds.{Region, Visit, OpenShared, Ascends}
-use Rattle.archive_shape_canonical.specs.Settled.{Fit}
+use Rattle.archive_shape_canonical.specs.Settled.{Fit, free}
 use Rattle.archive_shape_canonical.specs.Sharing.{erased}
 use Rattle.archive_shape_canonical.specs.Canonical.{InRegions, AreBytes}
 use Rattle.archive_shape_canonical.specs.Laws.{CanonicalIn}
@@ -14,6 +14,7 @@ use Rattle.archive_shape.specs.Bytes.{HasBytes}
 use Rattle.archive_shape_layout.specs.declared.error.Error.{Error}
 use Rattle.archive_forms_laws.specs.State.{State, Keys, visits_of, IsConsistent, AllBefore, AllFrom, AreKeyedBy}
 use Rattle.archive_forms_laws.specs.Spelling.{Spelling, state_after}
+use Rattle.archive_forms_laws.specs.Unshared.{holds_shared}
 
 -- each byte from a position to another lies in one of the regions, or is zero
 abbrev pub AreGapsZero : List ℕ → List Region → ℕ → ℕ → Type 0
@@ -53,6 +54,8 @@ pub record SpellsAt {A R : Type 0} (fit : Fit) (s : Shape) (knows : Names → Ty
   -- what exceeds no limit is not refused
   pub piece_exact : (st : State) (e : Error) → w.piece_fits x st → w.piece_refused x st e → ⊥
   pub own_exact : (r : R) (pos : ℕ) (e : Error) → w.own_fits x r pos → w.own_refused x r pos e → ⊥
+  -- where no value of its shape holds a shared pointer, it suits the fit that binds nothing, whatever keys denote
+  pub unshared : holds_shared s ≡ false → (keys : Keys) → w.suits free keys x
 
 -- Of what a pointer leads to: its resolver is the position of the pointee, which lies after the shared values that were
 -- written when its data was. Where the pointee was written, the layout has it as writing makes it, and own bytes lead

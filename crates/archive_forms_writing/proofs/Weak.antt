@@ -86,6 +86,7 @@ module _ (cyclic : Bool) (p : Pointee) where
           own_bytes = as_option.own_bytes;
           piece_exact = as_option.piece_exact;
           own_exact = as_option.own_exact;
+          unshared = as_option.unshared;
         }
 
     -- ---- to a value
@@ -97,7 +98,7 @@ module _ (cyclic : Bool) (p : Pointee) where
         let same = weak_size cyclic p in
         let behind_tag : SpellsAt fit (weak cyclic p) knows (payload_spelling 1 4 (size_of (option (shared cyclic p))) w) x =
         subst (λ size. SpellsAt fit (weak cyclic p) knows (payload_spelling 1 4 size w) x) (sym same)
-        (payload_spells_at fit (shared cyclic p) (weak cyclic p) knows w 1 4 (omega arith) (omega arith) (omega arith) refl pointer_content (λ bytes pos. tt) x one)
+        (payload_spells_at fit (shared cyclic p) (weak cyclic p) knows w 1 4 (omega arith) (omega arith) (omega arith) refl pointer_content (λ bytes pos. tt) (λ none. none) x one)
         in
         record {
           sized = λ r pos f. as_option.sized r pos f ∙ same;
@@ -108,6 +109,7 @@ module _ (cyclic : Bool) (p : Pointee) where
           own_bytes = as_option.own_bytes;
           piece_exact = as_option.piece_exact;
           own_exact = as_option.own_exact;
+          unshared = as_option.unshared;
         }
 
     pub weak_spells : Spells fit (shared cyclic p) knows w → Spells fit (weak cyclic p) knows (option_spelling (shared cyclic p) w)

@@ -1,6 +1,6 @@
 //! Tests of archived hash tables: hashes and tags, the marks of scans, strides, the places that scans of every width
-//! find, the errors of checking tables and index maps, index maps and sets, the bytes that are written, and what is
-//! read back.
+//! find, the errors of checking tables and index maps, index maps and sets, the bytes that are written, what is read
+//! back, and values with several tables.
 #![tactic(auto)]
 
 #[cfg(test)]
@@ -23,6 +23,8 @@ mod reading;
 mod scanning;
 #[cfg(test)]
 mod sealing;
+#[cfg(test)]
+mod several;
 #[cfg(test)]
 mod shared;
 #[cfg(test)]

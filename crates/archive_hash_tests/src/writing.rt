@@ -29,9 +29,9 @@ pub(crate) fn memory(alloc: Global) -> Memory
 }
 
 /// A map from texts to numbers.
-type Numbers = OwnedHashMap<String, u32>;
+pub(crate) type Numbers = OwnedHashMap<String, u32>;
 
-type ArchivedNumbers = ArchivedHashMap<ArchivedString, ArchivedU32, FxHasher64>;
+pub(crate) type ArchivedNumbers = ArchivedHashMap<ArchivedString, ArchivedU32, FxHasher64>;
 
 /// Returns a number in decimal.
 fn decimal(alloc: Global, number: u32) -> Option<String> {
@@ -76,7 +76,7 @@ fn tables_have_a_place_more_than_items_and_seven_of_eight_places_full(rt: HostRu
 }
 
 /// Returns the map from the decimal texts of the numbers below `count` to those numbers.
-fn decimals(alloc: Global, count: u32) -> Option<Numbers> {
+pub(crate) fn decimals(alloc: Global, count: u32) -> Option<Numbers> {
     let mut map = HashMap::new(alloc);
     for number in 0..count {
         if map.insert(decimal(alloc, number)?, number).is_err() {

@@ -18,4 +18,5 @@ beside_spells fit s knows by each x =
       own_bytes = one.own_bytes;
       piece_exact = one.piece_exact;
       own_exact = one.own_exact;
+      unshared = one.unshared;
     }

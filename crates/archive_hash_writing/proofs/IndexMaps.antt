@@ -45,6 +45,7 @@ use Rattle.archive_forms_laws.proofs.Links.{link_small, link_exact, length-link}
 use Rattle.archive_forms_laws.proofs.Pointers.{offset_stands, slice_spells_at}
 use Rattle.archive_forms_laws.proofs.Regions.{state_after_all_keyed, state_after_all_pos, region_end, region_up, slice_canonical, no_parts, more_parts}
 use Rattle.archive_forms_laws.proofs.States.{consistent_further, from_earlier}
+use Rattle.archive_forms_laws.proofs.Unshared.{each_unshared, pair_unshared}
 use Rattle.archive_forms_laws.proofs.Views.{each_spells}
 use Rattle.archive_hash_writing.specs.Fitted.{capacity_of, places_of, table_of, controls_of}
 use Rattle.archive_forms_laws.specs.Sample.{number_shape, number_spelling}
@@ -219,6 +220,7 @@ module _ {A R : Type 0} (fit : Fit) (k v : Shape) (knows : Names → Type 0) (w 
     own_bytes = own_small [] even tags tt;
     piece_exact = λ st e f r. r;
     own_exact = own_not_refused [] even tags tt;
+    unshared = λ none keys. (tt, tt);
   }
 
   -- a map that has entries
@@ -388,6 +390,7 @@ module _ {A R : Type 0} (fit : Fit) (k v : Shape) (knows : Names → Type 0) (w 
       own_bytes = own_small all even tags each;
       piece_exact = not_refused;
       own_exact = own_not_refused all even tags each;
+      unshared = λ none keys. (each_unshared fit pair knows w all each (pair_unshared k v none) keys, tt);
     }
       where
         not_refused : (st : State) (e : Error) → spelled.piece_fits all st → spelled.piece_refused all st e → ⊥
@@ -413,6 +416,7 @@ index_spells_at fit k v knows w most places hash xs small each =
       own_bytes = one.own_bytes;
       piece_exact = one.piece_exact;
       own_exact = one.own_exact;
+      unshared = one.unshared;
     }
 
 -- so of all maps of such entries

@@ -17,7 +17,7 @@ use Rattle.archive_forms_laws.specs.Sample.{number_spelling}
 abbrev pub no_keys : Keys
 no_keys k = None
 
-pub none_shared : (fit : Fit) (xs : List ℕ) → all_suit number_spelling fit no_keys xs
+none_shared : (fit : Fit) (xs : List ℕ) → all_suit number_spelling fit no_keys xs
 none_shared fit [] = tt
 none_shared fit (x ∷ xs) = (tt, none_shared fit xs)
 

@@ -38,6 +38,7 @@ use Rattle.archive_forms_laws.proofs.Links.{link_small, link_exact, length-link}
 use Rattle.archive_forms_laws.proofs.Pointers.{offset_stands, one_part}
 use Rattle.archive_forms_laws.proofs.Regions.{state_after_all_keyed}
 use Rattle.archive_forms_laws.proofs.States.{consistent_advanced}
+use Rattle.archive_forms_laws.proofs.Unshared.{each_unshared}
 use Rattle.archive_forms_laws.proofs.Views.{each_spells}
 use Rattle.archive_hash_writing.specs.Fitted.{capacity_of, places_of, table_of, by_place, controls_of}
 use Rattle.archive_hash_writing.specs.Tables.{controls_at, filled_piece, filled_fits, hashed_spelling, table_spelling}
@@ -132,6 +133,7 @@ module _ {A R : Type 0} (fit : Fit) (s : Shape) (knows : Names → Type 0) (w : 
     own_bytes = λ r pos f. bytes_append (link_bytes r pos) _ (link_small r pos) (bytes_append (to_le_bytes w32 0) (to_le_bytes w32 0) (bytes_word 0) (bytes_word 0));
     piece_exact = λ st e f r. r;
     own_exact = λ r pos e f g. refused r pos e f g;
+    unshared = λ none keys. (tt, tt);
   }
     where
       refused : (r : Option ℕ) (pos : ℕ) (e : Error) → (hashed_spelling most places s w hashes).own_fits [] r pos → (hashed_spelling most places s w hashes).own_refused [] r pos e → ⊥
@@ -219,6 +221,7 @@ module _ {A R : Type 0} (fit : Fit) (s : Shape) (knows : Names → Type 0) (w : 
       own_bytes = λ r pos f. bytes_append (link_bytes r pos) _ (link_small r pos) (bytes_append (to_le_bytes w32 (length (x ∷ xs))) (to_le_bytes w32 (capacity_of most places hashes (x ∷ xs))) (bytes_word (length (x ∷ xs))) (bytes_word (capacity_of most places hashes (x ∷ xs))));
       piece_exact = λ st e f r. filled_exact fit s knows w standing written each st e f r;
       own_exact = λ r pos e f g. refused r pos e f g;
+      unshared = λ none keys. (each_unshared fit s knows w (by_place most places hashes (x ∷ xs)) each none keys, tt);
     }
       where
         refused : (r : Option ℕ) (pos : ℕ) (e : Error) → (hashed_spelling most places s w hashes).own_fits (x ∷ xs) r pos → (hashed_spelling most places s w hashes).own_refused (x ∷ xs) r pos e → ⊥
@@ -246,6 +249,7 @@ table_spells {A = A} fit s knows w most places hash small h xs = record {
   own_bytes = one.own_bytes;
   piece_exact = one.piece_exact;
   own_exact = one.own_exact;
+  unshared = one.unshared;
 }
   where
     hashes_small : (ys : List A) → All (λ n. n < 2 ^ 64) (map hash ys)

@@ -1,9 +1,9 @@
 -- Lists of tables, each of which is filled in its own way.
-use Rattle.std.specs.Prelude.{◌≡◌, ℕ, ◌<◌, ◌^◌, List, [], ◌∷◌, false}
+use Rattle.std.specs.Prelude.{◌≡◌, ℕ, ◌<◌, ◌^◌, List, [], ◌∷◌}
 use Rattle.archive_shape_layout.specs.Shape.{Shape}
 use Rattle.archive_shape_layout.specs.Shape.Shape.{vector}
 use Rattle.archive_shape_layout.specs.Content.{Names}
-use Rattle.archive_shape_canonical.specs.Settled.{Fit}
+use Rattle.archive_shape_canonical.specs.Settled.{free}
 use Rattle.archive_forms_laws.specs.Spelling.{Spelling}
 use Rattle.archive_forms_laws.specs.Pointers.{slice_spelling}
 use Rattle.archive_forms_laws.specs.Regions.{region_fits, region_piece}
@@ -12,10 +12,6 @@ use Rattle.archive_forms_laws.specs.Written.{IsWritten}
 use Rattle.archive_forms_laws.specs.Sample.{number_spelling}
 use Rattle.archive_hash_writing.specs.Sample.{number_shape, sample_shape}
 use Rattle.archive_hash_writing.specs.Tables.{table_spelling}
-
--- a fit that asks nothing of tables
-abbrev pub free : Fit
-free = record { binds = false; capacity = λ n. n; table_controls = λ vs. []; table_items = λ vs. vs; map_controls = λ vs. []; map_numbers = λ vs. [] }
 
 abbrev pub many_shape : Shape
 many_shape = vector sample_shape

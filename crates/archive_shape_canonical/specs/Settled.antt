@@ -23,6 +23,10 @@ pub record Fit : Type 0 where
   -- the number of the entry in each full place of an index map
   pub map_numbers : Values → List ℕ
 
+-- the fit that binds nothing: tables may be filled in any way
+abbrev pub free : Fit
+free = record { binds = false; capacity = λ n. n; table_controls = λ vs. []; table_items = λ vs. vs; map_controls = λ vs. []; map_numbers = λ vs. [] }
+
 abbrev pub naturals : List ℕ → Values
 naturals [] = no_values
 naturals (n ∷ ns) = more_values (natural n) (naturals ns)

@@ -64,6 +64,7 @@ impl<'a> Archive for NodeIn<'a> {
           own_bytes = one.own_bytes;
           piece_exact = one.piece_exact;
           own_exact = one.own_exact;
+          unshared = one.unshared;
         } };
 }
 

@@ -106,6 +106,7 @@ module _ (fit : Fit) where
       own_bytes = one.own_bytes;
       piece_exact = one.piece_exact;
       own_exact = one.own_exact;
+      unshared = one.unshared;
     }
 
     -- by the kind of a document
@@ -169,6 +170,7 @@ module _ (fit : Fit) where
           own_bytes = one.own_bytes;
           piece_exact = one.piece_exact;
           own_exact = one.own_exact;
+          unshared = one.unshared;
         })
 
 pub node_spells_law : NodeSpells

@@ -32,4 +32,5 @@ returns g c =
     record {
       read = result_of g.T.Archived.Portable.shape g.T.Archived.Portable.knows g.T.Archive.spelling g.T.Archived.ReadBack.reads c.fault_refuses.ensures c.written_is_accepted.ensures
           c.read_back_is_written.ensures c.requires.named.0 c.requires.named.1 c.args.value.now c.as_slice-archive.result.now c.as_slice-archive.type_inv.0 (rw slice.value c.in-Ok.ensures.archive) c.from_bytes.result read.exact read.value;
+      unshared = λ none. read.written none c.args.value.now (rw slice.value c.in-Ok.ensures.archive);
     }
