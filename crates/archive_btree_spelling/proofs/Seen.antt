@@ -1,5 +1,5 @@
--- The map of entries that are seen as others is archived as the map of those, and spellings that say the same of each
--- value of a map say the same of the map.
+-- The map of entries that are seen as others, the resolvers of their values kept as others, is archived as the map of
+-- those, and spellings that say the same of each value of a map say the same of the map.
 use Rattle.std.proofs.Common.{◌≡◌, ◌∙◌, ℕ, zero, suc, ◌+◌, ◌-◌, ◌^◌, ◌<◌, ◌≤◌, Bool, true, false, cond, nat_le, List, [], ◌∷◌, ◌++◌, length, take, drop, map, get_or, Option, Some, ◌⊎◌, refl, sym, ap, ap₂, arith}
 use Rattle.std.specs.Int.{w32, to_le_bytes}
 use Rattle.std.specs.List.{take-map, drop-map}
@@ -17,7 +17,7 @@ use Rattle.archive_shape_layout.specs.declared.error.Error.{Error}
 use Rattle.archive_shape_layout.specs.declared.error.Error.TheVariants.{LengthTooLarge, PositionTooLarge}
 use Rattle.archive_forms_laws.specs.State.{State, Keys}
 use Rattle.archive_forms_laws.specs.Spelling.{Spelling, state_after}
-use Rattle.archive_forms_laws.specs.Forms.{seen_as}
+use Rattle.archive_forms_laws.specs.Forms.{seen_as, kept_as}
 use Rattle.archive_forms_laws.specs.Links.{link_bytes, LinkFits, LinkRefused}
 use Rattle.archive_forms_laws.specs.Regions.{state_after_all, values, resolvers, plain_values, all_suit, pieces, pieces_fit, pieces_refused}
 use Rattle.archive_forms_laws.proofs.Agreeing.{Said, said, state_said, AgreeOn}
@@ -28,44 +28,45 @@ use Rattle.archive_btree_spelling.specs.Maps.{packed_spelling, btree_spelling}
 -- ---- lists of values
 
 -- what a spelling says of the data of values, one after the other
-record SaidOfAll (R : Type 0) : Type 1 where
+record SaidOfAll : Type 1 where
   after : State → State
   values : State → Values
   plain : Values
   piece : State → List ℕ
-  resolvers : State → List R
   fits : State → Type 0
   refused : State → Error → Type 0
   suits : Fit → Keys → Type 0
 
-abbrev said_of_all : {A R : Type 0} → Spelling A R → List A → SaidOfAll R
+abbrev said_of_all : {A R : Type 0} → Spelling A R → List A → SaidOfAll
 said_of_all w xs = record {
   after = λ st. state_after_all w xs st;
   values = λ st. values w xs st;
   plain = plain_values w xs;
   piece = λ st. pieces w xs st;
-  resolvers = λ st. resolvers w xs st;
   fits = λ st. pieces_fit w xs st;
   refused = λ st e. pieces_refused w xs st e;
   suits = λ fit keys. all_suit w fit keys xs;
 }
 
 -- the same with one more value before them
-abbrev more_said : {R : Type 0} → Said R → SaidOfAll R → SaidOfAll R
+abbrev more_said : {R : Type 0} → Said R → SaidOfAll → SaidOfAll
 more_said o all = record {
   after = λ st. all.after (state_said o st);
   values = λ st. more_values (o.value st) (all.values (state_said o st));
   plain = more_values o.plain all.plain;
   piece = λ st. o.piece st ++ all.piece (state_said o st);
-  resolvers = λ st. o.resolver st ∷ all.resolvers (state_said o st);
   fits = λ st. o.piece_fits st × all.fits (state_said o st);
   refused = λ st e. o.piece_refused st e ⊎ all.refused (state_said o st) e;
   suits = λ fit keys. o.suits fit keys × all.suits fit keys;
 }
 
-all_seen : {A B R : Type 0} (view : B → A) (w : Spelling B R) (u : Spelling A R) → ((y : B) → said w y ≡ said u (view y)) → (ys : List B) → said_of_all w ys ≡ said_of_all u (map view ys)
-all_seen view w u same [] = refl
-all_seen view w u same (y ∷ ys) = λ i. more_said (same y i) (all_seen view w u same ys i)
+all_seen : {A B R Q : Type 0} (view : B → A) (make : R → Q) (get : Q → R) (w : Spelling B Q) (u : Spelling A R) → ((y : B) → said w y ≡ said (kept_as make get u) (view y)) → (ys : List B) → said_of_all w ys ≡ said_of_all u (map view ys)
+all_seen view make get w u same [] = refl
+all_seen view make get w u same (y ∷ ys) = λ i. more_said (same y i) (all_seen view make get w u same ys i)
+
+resolvers_seen : {A B R : Type 0} (view : B → A) (w : Spelling B R) (u : Spelling A R) → ((y : B) → said w y ≡ said u (view y)) → (ys : List B) (st : State) → resolvers w ys st ≡ resolvers u (map view ys) st
+resolvers_seen view w u same [] st = refl
+resolvers_seen view w u same (y ∷ ys) st = λ i. (same y i).resolver st ∷ resolvers_seen view w u same ys (state_said (same y i) st) i
 
 -- ---- the items of a node, and those below its pointers
 
@@ -125,21 +126,22 @@ module _ {A B R Q : Type 0} (most : ℕ) (k v : Shape) (keys : Spelling A R) (va
     vals_refused = λ st pos e. AnySlot (state_after entries) (size_of v) (λ x then at. vals.own_refused x.1 (vals.resolver x.1 (state_after keys x.0 then)) at e) xs st pos;
   }
 
-  -- the same with one more entry before them
-  abbrev more_slots : A × B → SaidOfSlots → SaidOfSlots
-  more_slots x o = record {
+  -- the same with one more entry before them, whose value has that resolver
+  abbrev more_slots : A × B → (State → Q) → SaidOfSlots → SaidOfSlots
+  more_slots x r o = record {
     keys = λ st pos. key_own most k v keys vals x st pos ++ o.keys (state_after entries x st) (pos + size_of k);
-    vals = λ st pos. value_own most k v keys vals x st pos ++ o.vals (state_after entries x st) (pos + size_of v);
+    vals = λ st pos. vals.own x.1 (r st) pos ++ o.vals (state_after entries x st) (pos + size_of v);
     keys_fit = λ st pos. keys.own_fits x.0 (keys.resolver x.0 st) pos × o.keys_fit (state_after entries x st) (pos + size_of k);
-    vals_fit = λ st pos. vals.own_fits x.1 (vals.resolver x.1 (state_after keys x.0 st)) pos × o.vals_fit (state_after entries x st) (pos + size_of v);
+    vals_fit = λ st pos. vals.own_fits x.1 (r st) pos × o.vals_fit (state_after entries x st) (pos + size_of v);
     keys_refused = λ st pos e. keys.own_refused x.0 (keys.resolver x.0 st) pos e ⊎ o.keys_refused (state_after entries x st) (pos + size_of k) e;
-    vals_refused = λ st pos e. vals.own_refused x.1 (vals.resolver x.1 (state_after keys x.0 st)) pos e ⊎ o.vals_refused (state_after entries x st) (pos + size_of v) e;
+    vals_refused = λ st pos e. vals.own_refused x.1 (r st) pos e ⊎ o.vals_refused (state_after entries x st) (pos + size_of v) e;
   }
 
--- What is said of a node of a kind, where this is said of what is below its pointers, of the data and the own bytes of its
--- own entries, and of all its items. Its last words are a function of where its pointers lead, and of where they lie.
-abbrev said_of_node : {R : Type 0} (most : ℕ) (k v : Shape) (kind : ℕ) → SaidOfAll (Option ℕ) → SaidOfAll R → SaidOfSlots → (List (Option ℕ) → ℕ → List ℕ) → SaidOfAll R → Said (Option ℕ)
-said_of_node most k v kind below own o last all =
+-- What is said of a node of a kind, where this is said of what is below its pointers and of where they lead, of the data
+-- and the own bytes of its own entries, and of all its items. Its last words are a function of where its pointers lead,
+-- and of where they lie.
+abbrev said_of_node : (most : ℕ) (k v : Shape) (kind : ℕ) → SaidOfAll → (State → List (Option ℕ)) → SaidOfAll → SaidOfSlots → (List (Option ℕ) → ℕ → List ℕ) → SaidOfAll → Said (Option ℕ)
+said_of_node most k v kind below roots own o last all =
     let then : State → State = λ st. own.after (below.after st) in
     let start : State → ℕ = λ st. align_up (then st).pos (link_node_align k v) in
     let size = link_node_size (words_of kind most) most k v in
@@ -153,7 +155,7 @@ said_of_node most k v kind below own o last all =
           ++ (filled (keys_offset k) (kind ∷ [])
           ++ (filled (values_offset most k v - keys_offset k) (o.keys (below.after st) (start st + keys_offset k))
           ++ (filled (links_offset most k v - values_offset most k v) (o.vals (below.after st) (start st + values_offset most k v))
-          ++ filled (size - links_offset most k v) (last (below.resolvers st) (start st + links_offset most k v)))))));
+          ++ filled (size - links_offset most k v) (last (roots st) (start st + links_offset most k v)))))));
       resolver = λ st. Some (start st);
       met = λ st. (then st).met;
       own = λ root pos. link_bytes root pos;
@@ -163,14 +165,14 @@ said_of_node most k v kind below own o last all =
           × ((start st < 2 ^ 32) × (start st + size < 2 ^ 64))
           × (o.keys_fit (below.after st) (start st + keys_offset k)
           × o.vals_fit (below.after st) (start st + values_offset most k v)
-          × LinksFit (below.resolvers st) (start st + links_offset most k v)));
+          × LinksFit (roots st) (start st + links_offset most k v)));
       piece_refused = λ st e.
           below.refused st e
           ⊎ (own.refused (below.after st) e
           ⊎ (((((start st < 2 ^ 32) × (start st + size < 2 ^ 64)) → ⊥) × (e ≡ PositionTooLarge))
           ⊎ (o.keys_refused (below.after st) (start st + keys_offset k) e
           ⊎ (o.vals_refused (below.after st) (start st + values_offset most k v) e
-          ⊎ LinksRefused (below.resolvers st) (start st + links_offset most k v) e))));
+          ⊎ LinksRefused (roots st) (start st + links_offset most k v) e))));
       own_fits = λ root pos. LinkFits root pos;
       own_refused = λ root pos e. LinkRefused root pos e;
       suits = all.suits;
@@ -184,10 +186,10 @@ module _ {A B R Q : Type 0} (most : ℕ) (k v : Shape) (keys : Spelling A R) (va
   abbrev node_said : Spelling (List (A × B)) (Option ℕ) → Parted (A × B) → List (A × B) → Said (Option ℕ)
   node_said child p xs =
       let of_entries = said_of_all (entry_spelling most k v keys vals) in
-      said_of_node most k v p.kind (said_of_all child p.below) (of_entries p.own) (said_of_slots most k v keys vals p.own) (last_words p.kind p.own) (of_entries xs)
+      said_of_node most k v p.kind (said_of_all child p.below) (λ st. resolvers child p.below st) (of_entries p.own) (said_of_slots most k v keys vals p.own) (last_words p.kind p.own) (of_entries xs)
 
 -- what is said of a map with that number of entries, where this is said of its tree and of its entries
-abbrev said_of_map : {R : Type 0} → ℕ → Said (Option ℕ) → SaidOfAll R → Said (Option ℕ)
+abbrev said_of_map : ℕ → Said (Option ℕ) → SaidOfAll → Said (Option ℕ)
 said_of_map count tree all = record {
   value = tree.value;
   plain = group all.plain;
@@ -208,37 +210,44 @@ said_of_map count tree all = record {
 abbrev pub seen_entry : {A B C D : Type 0} → (C → A) → (D → B) → C × D → A × B
 seen_entry f g e = (f e.0, g e.1)
 
-module _ {A B C D R Q : Type 0} (most : ℕ) (k v : Shape) (f : C → A) (g : D → B) (keys : Spelling A R) (vals : Spelling B Q) where
+module _ {A B C D R Q S : Type 0} (most : ℕ) (k v : Shape) (f : C → A) (g : D → B) (make : Q → S) (get : S → Q) (back : (r : Q) → get (make r) ≡ r) (keys : Spelling A R) (vals : Spelling B Q) where
   abbrev view : C × D → A × B
   view = seen_entry f g
 
-  entries_seen : (xs : List (C × D)) → said_of_all (entry_spelling most k v (seen_as f keys) (seen_as g vals)) xs ≡ said_of_all (entry_spelling most k v keys vals) (map view xs)
-  entries_seen xs = all_seen view (entry_spelling most k v (seen_as f keys) (seen_as g vals)) (entry_spelling most k v keys vals) (λ x. refl) xs
+  -- a value is seen as another, and its resolver is kept as another
+  abbrev as_other : Spelling D S
+  as_other = kept_as make get (seen_as g vals)
 
-  slots_seen : (xs : List (C × D)) → said_of_slots most k v (seen_as f keys) (seen_as g vals) xs ≡ said_of_slots most k v keys vals (map view xs)
+  entries_seen : (xs : List (C × D)) → said_of_all (entry_spelling most k v (seen_as f keys) as_other) xs ≡ said_of_all (entry_spelling most k v keys vals) (map view xs)
+  entries_seen xs =
+      all_seen view (λ r. (r.0, make r.1)) (λ r. (r.0, get r.1)) (entry_spelling most k v (seen_as f keys) as_other) (entry_spelling most k v keys vals) (λ x. refl) xs
+
+  slots_seen : (xs : List (C × D)) → said_of_slots most k v (seen_as f keys) as_other xs ≡ said_of_slots most k v keys vals (map view xs)
   slots_seen [] = refl
-  slots_seen (x ∷ xs) = ap (more_slots most k v keys vals (view x)) (slots_seen xs)
+  slots_seen (x ∷ xs) = λ i. more_slots most k v keys vals (view x) (λ st. back (vals.resolver (g x.1) (state_after keys (f x.0) st)) i) (slots_seen xs i)
 
-  words_seen : (kind : ℕ) (xs : List (C × D)) → last_words most k v (seen_as f keys) (seen_as g vals) kind xs ≡ last_words most k v keys vals kind (map view xs)
+  words_seen : (kind : ℕ) (xs : List (C × D)) → last_words most k v (seen_as f keys) as_other kind xs ≡ last_words most k v keys vals kind (map view xs)
   words_seen zero xs = λ i roots pos. to_le_bytes w32 (sym (length-map xs view) i)
   words_seen (suc kind) xs = refl
 
   -- so a node, where what is below its pointers is archived so
   tree_seen :
       (below : Spelling (List (C × D)) (Option ℕ)) (child : Spelling (List (A × B)) (Option ℕ)) → ((ys : List (C × D)) → said below ys ≡ said child (map view ys))
-      → (xs : List (C × D)) → said (tree_spelling most k v (seen_as f keys) (seen_as g vals) below) xs ≡ said (tree_spelling most k v keys vals child) (map view xs)
+      → (xs : List (C × D)) → said (tree_spelling most k v (seen_as f keys) as_other below) xs ≡ said (tree_spelling most k v keys vals child) (map view xs)
   tree_seen below child same [] = refl
   tree_seen below child same (x ∷ xs) = by_parts (parted most (x ∷ xs)) ∙ ap (λ p. node_said most k v keys vals child p (map view (x ∷ xs))) (parted_seen view most (x ∷ xs))
     where
-      by_parts : (p : Parted (C × D)) → node_said most k v (seen_as f keys) (seen_as g vals) below p (x ∷ xs) ≡ node_said most k v keys vals child (seen_parts view p) (map view (x ∷ xs))
-      by_parts p = λ i. said_of_node most k v p.kind (all_seen (λ ys. map view ys) below child same p.below i) (entries_seen p.own i) (slots_seen p.own i) (words_seen p.kind p.own i) (entries_seen (x ∷ xs) i)
+      by_parts : (p : Parted (C × D)) → node_said most k v (seen_as f keys) as_other below p (x ∷ xs) ≡ node_said most k v keys vals child (seen_parts view p) (map view (x ∷ xs))
+      by_parts p = λ i.
+          let roots : State → List (Option ℕ) = λ st. resolvers_seen (λ ys. map view ys) below child same p.below st i in
+          said_of_node most k v p.kind (all_seen (λ ys. map view ys) (λ r. r) (λ r. r) below child same p.below i) roots (entries_seen p.own i) (slots_seen p.own i) (words_seen p.kind p.own i) (entries_seen (x ∷ xs) i)
 
-  packed_seen : (levels : ℕ) (xs : List (C × D)) → said (packed_spelling most k v (seen_as f keys) (seen_as g vals) levels) xs ≡ said (packed_spelling most k v keys vals levels) (map view xs)
+  packed_seen : (levels : ℕ) (xs : List (C × D)) → said (packed_spelling most k v (seen_as f keys) as_other levels) xs ≡ said (packed_spelling most k v keys vals levels) (map view xs)
   packed_seen zero xs = refl
-  packed_seen (suc levels) xs = tree_seen (packed_spelling most k v (seen_as f keys) (seen_as g vals) levels) (packed_spelling most k v keys vals levels) (packed_seen levels) xs
+  packed_seen (suc levels) xs = tree_seen (packed_spelling most k v (seen_as f keys) as_other levels) (packed_spelling most k v keys vals levels) (packed_seen levels) xs
 
   -- the map of entries that are seen as others is archived as the map of those
-  pub btree_seen : (xs : List (C × D)) → said (btree_spelling most k v (seen_as f keys) (seen_as g vals)) xs ≡ said (btree_spelling most k v keys vals) (map (seen_entry f g) xs)
+  pub btree_seen : (xs : List (C × D)) → said (btree_spelling most k v (seen_as f keys) as_other) xs ≡ said (btree_spelling most k v keys vals) (map (seen_entry f g) xs)
   btree_seen xs =
       let long : length xs ≡ length (map view xs) = sym (length-map xs view) in
       (λ i. said_of_map (long i) (packed_seen (levels_for most (length xs)) xs i) (entries_seen xs i))
@@ -292,7 +301,7 @@ module _ {A B R Q : Type 0} (most : ℕ) (k v : Shape) (keys : Spelling A R) (w 
       let numbers = numbers_from 0 es in
       let listed : map (seen_entry key_of value_of) numbers ≡ es = picked pick x 0 es (λ i. let none : 0 + i ≡ i = omega arith in ap pick none) in
       ap (said (btree_spelling most k v keys w)) (sym listed)
-      ∙ sym (btree_seen most k v key_of value_of keys w numbers)
+      ∙ sym (btree_seen most k v key_of value_of (λ r. r) (λ r. r) (λ r. refl) keys w numbers)
       ∙ ap (λ s. said (btree_spelling most k v (seen_as key_of keys) s) numbers) (one_spelling value_of (each_agrees es x agree agree.0))
-      ∙ btree_seen most k v key_of value_of keys u numbers
+      ∙ btree_seen most k v key_of value_of (λ r. r) (λ r. r) (λ r. refl) keys u numbers
       ∙ ap (said (btree_spelling most k v keys u)) listed

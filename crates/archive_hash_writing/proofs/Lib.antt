@@ -13,6 +13,7 @@ pub mod IndexPlaces
 pub mod IndexSamples
 pub mod IndexSeen
 pub mod ItemPlaces
+pub mod ListSeen
 pub mod Numbers
 pub mod Parting
 pub mod Placed

@@ -48,11 +48,12 @@ use Rattle.cabinet_text_grammar.specs.Tree as tree
 use Rattle.cabinet_text_grammar.specs.Tree.{Tree, depth}
 use Rattle.cabinet_text_grammar.specs.Wholes.{numbered}
 use Rattle.cabinet_documents.specs.Node.{node_shape, pair_shape, whole_shape, payloads, KnowsNode}
-use Rattle.cabinet_documents.specs.declared.spelling.resolver.NodeResolver.{NodeResolver}
-use Rattle.cabinet_documents.specs.declared.spelling.resolver.NodeResolver.TheVariants as resolver
+use Rattle.cabinet_documents.specs.Resolver.{Resolver}
+use Rattle.cabinet_documents.specs.Resolver as resolver
 use Rattle.cabinet_documents.specs.Spelling.{truth_spelling, number_spelling, shared_string_spelling, boxed_shape, boxed_spelling, maybe_spelling, list_spelling, ordered_spelling, hashed_spelling, kept_spelling, whole_spelling, text_in, shared_in, maybe_in, list_in, ordered_in, hashed_in, kept_in, whole_in, node_of, refused, node_level, node_spelling}
 use Rattle.cabinet_documents.proofs.Levels.{node_spells_law}
-use Rattle.cabinet_archived.specs.Archived.{archived_as, tree_within, trees_within, pairs_within, tree_numbered}
+use Rattle.cabinet_archived.specs.Archived.{node_resolver, resolver_in, archived_as, tree_within, trees_within, pairs_within, tree_numbered}
+use Rattle.cabinet_archived.specs.declared.resolver.NodeResolver.{NodeResolver}
 use Rattle.cabinet_text_nodes.specs.View.{node_tree, node_trees, node_pairs, whole_of}
 use Rattle.cabinet_text_nodes.specs.declared.node.Node.{Node}
 use Rattle.cabinet_text_nodes.specs.declared.node.Node.TheVariants as node
@@ -63,14 +64,14 @@ use Rattle.archive_forms_writing.specs.Owned.{str_spelling}
 
 -- a box is resolved where its offset is written
 pub box_resolved :
-    (w : Spelling Tree NodeResolver) (x : Tree) (r : BoxResolver) (pos start : ℕ) (old new : List ℕ) (result : Result (Unit {0}) Error)
+    (w : Spelling Tree Resolver) (x : Tree) (r : BoxResolver) (pos start : ℕ) (old new : List ℕ) (result : Result (Unit {0}) Error)
     → MatchResult result (λ _. FitsOffset pos r.pos × (new ≡ overwrite old start (offset_bytes pos r.pos))) (λ e. (e ≡ IsizeOverflow) × ((FitsOffset pos r.pos → ⊥) × (new ≡ old)))
     → Resolves (boxed_spelling w) boxed_shape x r pos start old new result
 box_resolved w x r pos start old new result h = laws.box_resolved node_shape boxed_shape w x r.pos pos start old new result h
 
 -- an option for which no box is kept is zero
 pub unkept_resolved :
-    (w : Spelling Tree NodeResolver) (o : Option Tree) (k : Option BoxResolver) (bytes : List ℕ) (start pos : ℕ) → k ≡ None → HasBytes bytes start (zeros 8)
+    (w : Spelling Tree Resolver) (o : Option Tree) (k : Option BoxResolver) (bytes : List ℕ) (start pos : ℕ) → k ≡ None → HasBytes bytes start (zeros 8)
     → Resolves (maybe_spelling w) (option boxed_shape) o k pos start bytes bytes (Ok tt)
 unkept_resolved w o k bytes start pos is blank =
     let P : ℕ → Type 0 = λ n. HasBytes bytes start (zeros n) in
@@ -89,7 +90,7 @@ length-trees_in wholes ns = by ns where
 
 -- a vector is resolved where its offset and its length are written
 pub vec_resolved :
-    (wholes : List Tree) (w : Spelling Tree NodeResolver) (ns : List Node) (len : ℕ) (r : VecResolver) (pos start : ℕ) (old new : List ℕ) (result : Result (Unit {0}) Error)
+    (wholes : List Tree) (w : Spelling Tree Resolver) (ns : List Node) (len : ℕ) (r : VecResolver) (pos start : ℕ) (old new : List ℕ) (result : Result (Unit {0}) Error)
     → len ≡ length ns
     → MatchResult result
     (λ _. (FitsOffset pos r.pos × (len < 2 ^ 32)) × (new ≡ overwrite old start (offset_bytes pos r.pos ++ to_le_bytes w32 len)))
@@ -104,7 +105,7 @@ length-pairs_in wholes (p ∷ ps) = ap suc (length-pairs_in wholes ps)
 
 -- a map is resolved where the pointer to its root and its length are written
 pub map_resolved :
-    (wholes : List Tree) (w : Spelling Tree NodeResolver) (ps : List (String Global × Node)) (len : ℕ) (r : BTreeMapResolver) (pos start : ℕ) (old new : List ℕ) (result : Result (Unit {0}) Error)
+    (wholes : List Tree) (w : Spelling Tree Resolver) (ps : List (String Global × Node)) (len : ℕ) (r : BTreeMapResolver) (pos start : ℕ) (old new : List ℕ) (result : Result (Unit {0}) Error)
     → len ≡ length ps
     → MatchResult result
     (λ _. (LinkFits r.pos pos × (len < 2 ^ 32)) × (new ≡ overwrite old start (link_bytes r.pos pos ++ to_le_bytes w32 len)))
@@ -119,7 +120,7 @@ map_resolved wholes w ps len r pos start old new (Err e) is h =
 
 -- a counted pointer is resolved where its offset is written
 pub whole_payload :
-    (wholes : List Tree) (w : Spelling Tree NodeResolver) (x : Tree) (r : RcResolver) (pos start : ℕ) (old new : List ℕ) (result : Result (Unit {0}) Error)
+    (wholes : List Tree) (w : Spelling Tree Resolver) (x : Tree) (r : RcResolver) (pos start : ℕ) (old new : List ℕ) (result : Result (Unit {0}) Error)
     → MatchResult result (λ _. FitsOffset pos r.pos × (new ≡ overwrite old start (offset_bytes pos r.pos))) (λ e. (e ≡ IsizeOverflow) × ((FitsOffset pos r.pos → ⊥) × (new ≡ old)))
     → Resolves (whole_spelling wholes w) whole_shape x r pos start old new result
 whole_payload wholes w x r pos start old new result h = laws.box_resolved node_shape whole_shape w x r.pos pos start old new result h
@@ -188,21 +189,21 @@ module _ (wholes : List Tree) (r : NodeResolver) (bytes set_bytes new final : Li
     (room : start + 24 ≤ length bytes) (blank : HasBytes bytes start (zeros 24)) (ends : new ≡ final) where
   -- a payload that is resolved after its tag is the node's
   kind_resolved :
-      {A R : Type 0} (tag offset : ℕ) (s : Shape) (w : Spelling A R) (make : R → NodeResolver) (get : NodeResolver → R) → KindPlace s offset
+      {A R : Type 0} (tag offset : ℕ) (s : Shape) (w : Spelling A R) (make : R → Resolver) (get : Resolver → R) → KindPlace s offset
       → (x : A) (t : Tree) → ((q : R) (p : ℕ) → w.own_fits x q p → length (w.own x q p) ≡ size_of s)
       → set_bytes ≡ set bytes start tag → from ≡ start + offset → there ≡ pos + offset
-      → (k : R) → k ≡ get r
+      → (k : R) → k ≡ get (resolver_in r)
       → Resolves w s x k there from set_bytes new result
-      → Resolves (node_of tag s w make get x) node_shape t r pos start bytes final result
+      → Resolves (node_of tag s w make get x) node_shape t (resolver_in r) pos start bytes final result
   unfolding align_up
   kind_resolved tag offset s w make get place x t sized is_set is_from is_there k is h =
       let here = subst (λ q. Resolves w s x q there from set_bytes new result) is h in
-      let behind = payload_resolved w s node_shape tag offset place.first place.fits bytes set_bytes new final start pos from there x (get r) result (sized (get r)) room blank is_set is_from is_there ends here in
-      subst (λ n. Resolves (payload_spelling tag n 24 w) node_shape x (get r) pos start bytes final result) (sym place.at) behind
+      let behind = payload_resolved w s node_shape tag offset place.first place.fits bytes set_bytes new final start pos from there x (get (resolver_in r)) result (sized (get (resolver_in r))) room blank is_set is_from is_there ends here in
+      subst (λ n. Resolves (payload_spelling tag n 24 w) node_shape x (get (resolver_in r)) pos start bytes final result) (sym place.at) behind
 
   -- of each node with the tree
-  as_tree : (n : Node) (t : Tree) → node_tree wholes n ≡ t → Resolves (node_spelling wholes) node_shape t r pos start bytes final result → Resolves (archived_as wholes) node_shape n r pos start bytes final result
-  as_tree n t is h = subst (λ u. Resolves (node_spelling wholes) node_shape u r pos start bytes final result) (sym is) h
+  as_tree : (n : Node) (t : Tree) → node_tree wholes n ≡ t → Resolves (node_spelling wholes) node_shape t (resolver_in r) pos start bytes final result → Resolves (archived_as wholes) node_shape n r pos start bytes final result
+  as_tree n t is h = subst (λ u. Resolves (node_spelling wholes) node_shape u (resolver_in r) pos start bytes final result) (sym is) h
 
   pub truth_resolved :
       (n : Node) (b : Bool) → n ≡ node.Bool b
@@ -212,7 +213,7 @@ module _ (wholes : List Tree) (r : NodeResolver) (bytes set_bytes new final : Li
   truth_resolved n b is is_set is_from is_there h =
       let t = tree.leaf (tree.truth b) in
       as_tree n t (ap (node_tree wholes) is ∙ node_tree-bool wholes b)
-      (kind_resolved 0 1 truth truth_spelling (λ _. resolver.Leaf) (λ _. tt) truth_place b t (λ q p f. f.1) is_set is_from is_there tt refl h)
+      (kind_resolved 0 1 truth truth_spelling (λ _. resolver.leaf) (λ _. tt) truth_place b t (λ q p f. f.1) is_set is_from is_there tt refl h)
 
   pub number_resolved :
       (n : Node) (z : ℤ) → n ≡ node.Int z
@@ -222,36 +223,36 @@ module _ (wholes : List Tree) (r : NodeResolver) (bytes set_bytes new final : Li
   number_resolved n z is is_set is_from is_there h =
       let t = tree.leaf (tree.number z) in
       as_tree n t (ap (node_tree wholes) is ∙ node_tree-int wholes z)
-      (kind_resolved 1 8 (number w64 true) number_spelling (λ _. resolver.Leaf) (λ _. tt) number_place z t (λ q p f. f.1) is_set is_from is_there tt refl h)
+      (kind_resolved 1 8 (number w64 true) number_spelling (λ _. resolver.leaf) (λ _. tt) number_place z t (λ q p f. f.1) is_set is_from is_there tt refl h)
 
   pub text_resolved :
       (n : Node) (s : String Global) → n ≡ node.Text s
       → set_bytes ≡ set bytes start 2 → from ≡ start + 4 → there ≡ pos + 4
-      → (k : StringResolver) → k ≡ text_in r
+      → (k : StringResolver) → k ≡ text_in (resolver_in r)
       → Resolves str_spelling text (string_bytes s) k there from set_bytes new result
       → Resolves (archived_as wholes) node_shape n r pos start bytes final result
   text_resolved n s is is_set is_from is_there k is_in h =
       let x = string_bytes s in
       let t = tree.leaf (tree.text x) in
       as_tree n t (ap (node_tree wholes) is ∙ node_tree-text wholes s)
-      (kind_resolved 2 4 text str_spelling resolver.Text text_in text_place x t (λ q p f. (text_spells (first_fit (λ _. 0)) KnowsNode x).sized q.pos p f) is_set is_from is_there k is_in h)
+      (kind_resolved 2 4 text str_spelling resolver.text text_in text_place x t (λ q p f. (text_spells (first_fit (λ _. 0)) KnowsNode x).sized q.pos p f) is_set is_from is_there k is_in h)
 
   pub shared_resolved :
       (n : Node) (s : RcStr Global) → n ≡ node.Shared s
       → set_bytes ≡ set bytes start 3 → from ≡ start + 4 → there ≡ pos + 4
-      → (k : RcResolver) → k ≡ shared_in r
+      → (k : RcResolver) → k ≡ shared_in (resolver_in r)
       → Resolves shared_string_spelling (shared_shape false str) (rc_str_bytes s) k there from set_bytes new result
       → Resolves (archived_as wholes) node_shape n r pos start bytes final result
   shared_resolved n s is is_set is_from is_there k is_in h =
       let x = rc_str_bytes s in
       let t = tree.shared x in
       as_tree n t (ap (node_tree wholes) is ∙ node_tree-shared wholes s)
-      (kind_resolved 3 4 (shared_shape false str) shared_string_spelling resolver.Shared shared_in shared_place x t
+      (kind_resolved 3 4 (shared_shape false str) shared_string_spelling resolver.shared shared_in shared_place x t
       (λ q p f. (shared_text_spells (first_fit (λ _. 0)) false KnowsNode key_of_text x).sized q.pos p f) is_set is_from is_there k is_in h)
 
   -- the own bytes of an option are the same however the node in it is archived
   maybe_alike :
-      (w u : Spelling Tree NodeResolver) (offset size : ℕ) (o : Option Tree) (q : Option BoxResolver)
+      (w u : Spelling Tree Resolver) (offset size : ℕ) (o : Option Tree) (q : Option BoxResolver)
       → Resolves (payload_spelling 4 offset size (maybe_spelling w)) node_shape o q pos start bytes final result
       → Resolves (payload_spelling 4 offset size (maybe_spelling u)) node_shape o q pos start bytes final result
   maybe_alike w u offset size None None h = h
@@ -262,7 +263,7 @@ module _ (wholes : List Tree) (r : NodeResolver) (bytes set_bytes new final : Li
   pub maybe_resolved :
       (n : Node) (o : Option (Box Node Global)) → n ≡ node.Maybe o
       → set_bytes ≡ set bytes start 4 → from ≡ start + 4 → there ≡ pos + 4
-      → (k : Option BoxResolver) → k ≡ maybe_in r
+      → (k : Option BoxResolver) → k ≡ maybe_in (resolver_in r)
       → Resolves (maybe_spelling (node_spelling wholes)) (option boxed_shape) (tree_within wholes o) k there from set_bytes new result
       → Resolves (archived_as wholes) node_shape n r pos start bytes final result
   maybe_resolved n o is is_set is_from is_there k is_in h = by o is h
@@ -274,12 +275,12 @@ module _ (wholes : List Tree) (r : NodeResolver) (bytes set_bytes new final : Li
       offset = align_up 1 (align_of (option boxed_shape))
 
       inside : (x : Option Tree) (t : Tree) → Resolves (maybe_spelling (node_spelling wholes)) (option boxed_shape) x k there from set_bytes new result
-          → Resolves (payload_spelling 4 offset size (maybe_spelling (levels_spelling (node_level wholes) refused (depth t)))) node_shape x (maybe_in r) pos start bytes final result
+          → Resolves (payload_spelling 4 offset size (maybe_spelling (levels_spelling (node_level wholes) refused (depth t)))) node_shape x (maybe_in (resolver_in r)) pos start bytes final result
       inside x t h =
           let fit = first_fit (λ _. 0) in
           let boxes = kept_spells fit boxed_shape KnowsNode (λ n. record { pos = n }) (λ r. r.pos) (λ r. refl) (box_spelling node_shape (node_spelling wholes)) (box_spells fit node_shape KnowsNode (node_spelling wholes) (node_spells_law wholes fit)) in
-          maybe_alike (node_spelling wholes) (levels_spelling (node_level wholes) refused (depth t)) offset size x (maybe_in r)
-          (kind_resolved 4 4 (option boxed_shape) (maybe_spelling (node_spelling wholes)) resolver.Maybe maybe_in maybe_place x t
+          maybe_alike (node_spelling wholes) (levels_spelling (node_level wholes) refused (depth t)) offset size x (maybe_in (resolver_in r))
+          (kind_resolved 4 4 (option boxed_shape) (maybe_spelling (node_spelling wholes)) resolver.maybe maybe_in maybe_place x t
           (λ q p f. (option_spells fit boxed_shape KnowsNode (boxed_spelling (node_spelling wholes)) boxes x).sized q p f) is_set is_from is_there k is_in h)
 
       by : (o : Option (Box Node Global)) → n ≡ node.Maybe o → Resolves (maybe_spelling (node_spelling wholes)) (option boxed_shape) (tree_within wholes o) k there from set_bytes new result → Resolves (archived_as wholes) node_shape n r pos start bytes final result
@@ -289,7 +290,7 @@ module _ (wholes : List Tree) (r : NodeResolver) (bytes set_bytes new final : Li
   pub list_resolved :
       (n : Node) (v : Vec Node Global) → n ≡ node.List v
       → set_bytes ≡ set bytes start 5 → from ≡ start + 4 → there ≡ pos + 4
-      → (k : VecResolver) → k ≡ list_in r
+      → (k : VecResolver) → k ≡ list_in (resolver_in r)
       → Resolves (list_spelling (node_spelling wholes)) (vector node_shape) (trees_within wholes v.items) k there from set_bytes new result
       → Resolves (archived_as wholes) node_shape n r pos start bytes final result
   list_resolved n v is is_set is_from is_there k is_in h =
@@ -297,13 +298,13 @@ module _ (wholes : List Tree) (r : NodeResolver) (bytes set_bytes new final : Li
       let t = tree.list (node_trees wholes v.items) in
       let x = trees_within wholes v.items in
       as_tree n t (ap (node_tree wholes) is ∙ node_tree-list wholes v)
-      (kind_resolved 5 4 (vector node_shape) (list_spelling (node_spelling wholes)) resolver.List list_in list_place x t
+      (kind_resolved 5 4 (vector node_shape) (list_spelling (node_spelling wholes)) resolver.list list_in list_place x t
       (λ q p f. (slice_spells fit node_shape KnowsNode (node_spelling wholes) (node_spells_law wholes fit) x).sized q.pos p f) is_set is_from is_there k is_in h)
 
   pub ordered_resolved :
       (n : Node) (b : BTreeMap (String Global) Node) → n ≡ node.Ordered b
       → set_bytes ≡ set bytes start 6 → from ≡ start + 4 → there ≡ pos + 4
-      → (k : BTreeMapResolver) → k ≡ ordered_in r
+      → (k : BTreeMapResolver) → k ≡ ordered_in (resolver_in r)
       → Resolves (ordered_spelling (node_spelling wholes)) (tree_shape 5 text node_shape) (pairs_within wholes b.entries) k there from set_bytes new result
       → Resolves (archived_as wholes) node_shape n r pos start bytes final result
   ordered_resolved n b is is_set is_from is_there k is_in h =
@@ -311,39 +312,39 @@ module _ (wholes : List Tree) (r : NodeResolver) (bytes set_bytes new final : Li
       let t = tree.map ordered (node_pairs wholes b.entries) in
       let x = pairs_within wholes b.entries in
       as_tree n t (ap (node_tree wholes) is ∙ node_tree-ordered wholes b)
-      (kind_resolved 6 4 (tree_shape 5 text node_shape) (ordered_spelling (node_spelling wholes)) resolver.Ordered ordered_in ordered_place x t
+      (kind_resolved 6 4 (tree_shape 5 text node_shape) (ordered_spelling (node_spelling wholes)) resolver.ordered ordered_in ordered_place x t
       (λ q p f. (map_spells fit 5 text node_shape KnowsNode str_spelling (node_spelling wholes) (λ y. kept_spells_at fit text KnowsNode _ _ (λ z. refl) text_spelling y (text_spells fit KnowsNode y)) (node_spells_law wholes fit) x (λ _. omega arith)).sized q.pos p f) is_set is_from is_there k is_in h)
 
   pub hashed_resolved :
       (n : Node) (b : BTreeMap (String Global) Node) → n ≡ node.Hashed b
       → set_bytes ≡ set bytes start 7 → from ≡ start + 4 → there ≡ pos + 4
-      → (k : HashTableResolver) → k ≡ hashed_in r
+      → (k : HashTableResolver) → k ≡ hashed_in (resolver_in r)
       → Resolves (hashed_spelling (node_spelling wholes)) (table pair_shape) (pairs_within wholes b.entries) k there from set_bytes new result
       → Resolves (archived_as wholes) node_shape n r pos start bytes final result
   hashed_resolved n b is is_set is_from is_there k is_in h =
       let t = tree.map hashed (node_pairs wholes b.entries) in
       let x = pairs_within wholes b.entries in
       as_tree n t (ap (node_tree wholes) is ∙ node_tree-hashed wholes b)
-      (kind_resolved 7 4 (table pair_shape) (hashed_spelling (node_spelling wholes)) resolver.Hashed hashed_in hashed_place x t
+      (kind_resolved 7 4 (table pair_shape) (hashed_spelling (node_spelling wholes)) resolver.hashed hashed_in hashed_place x t
       (λ q p f. length-own q.pos p _ _) is_set is_from is_there k is_in h)
 
   pub kept_resolved :
       (n : Node) (v : Vec (String Global × Node) Global) → n ≡ node.Kept v
       → set_bytes ≡ set bytes start 8 → from ≡ start + 4 → there ≡ pos + 4
-      → (k : IndexMapResolver) → k ≡ kept_in r
+      → (k : IndexMapResolver) → k ≡ kept_in (resolver_in r)
       → Resolves (kept_spelling (node_spelling wholes)) (index_map text node_shape) (pairs_within wholes v.items) k there from set_bytes new result
       → Resolves (archived_as wholes) node_shape n r pos start bytes final result
   kept_resolved n v is is_set is_from is_there k is_in h =
       let t = tree.map kept (node_pairs wholes v.items) in
       let x = pairs_within wholes v.items in
       as_tree n t (ap (node_tree wholes) is ∙ node_tree-kept wholes v)
-      (kind_resolved 8 4 (index_map text node_shape) (kept_spelling (node_spelling wholes)) resolver.Kept kept_in kept_place x t
+      (kind_resolved 8 4 (index_map text node_shape) (kept_spelling (node_spelling wholes)) resolver.kept kept_in kept_place x t
       (λ q p f. length-both q.table.pos q.entries p (p + 12) _ _) is_set is_from is_there k is_in h)
 
   pub whole_resolved :
       (n : Node) (m : ℕ) → n ≡ node.Whole m
       → set_bytes ≡ set bytes start 9 → from ≡ start + 4 → there ≡ pos + 4
-      → (k : RcResolver) → k ≡ whole_in r
+      → (k : RcResolver) → k ≡ whole_in (resolver_in r)
       → ((x : Tree) → Resolves (whole_spelling wholes (node_spelling wholes)) whole_shape x k there from set_bytes new result)
       → Resolves (archived_as wholes) node_shape n r pos start bytes final result
   whole_resolved n m is is_set is_from is_there k is_in h =
@@ -351,11 +352,11 @@ module _ (wholes : List Tree) (r : NodeResolver) (bytes set_bytes new final : Li
       let x = tree_numbered (numbered wholes m) in
       let t = tree.whole x in
       as_tree n t (ap (node_tree wholes) is ∙ node_tree-whole wholes m ∙ whole_is (numbered wholes m))
-      (kind_resolved 9 4 whole_shape (whole_spelling wholes (node_spelling wholes)) resolver.Whole whole_in whole_place x t
+      (kind_resolved 9 4 whole_shape (whole_spelling wholes (node_spelling wholes)) resolver.whole whole_in whole_place x t
       (λ q p f. (shared_value_spells fit false node_shape KnowsNode (node_spelling wholes) (key_of_whole wholes) (node_spells_law wholes fit) x).sized q.pos p f) is_set is_from is_there k is_in (h x))
 
 -- what is kept of a text was made of it
-pub text_made : (wholes : List Tree) (n : Node) (s : String Global) (r : NodeResolver) (k : StringResolver) → n ≡ node.Text s → k ≡ text_in r
+pub text_made : (wholes : List Tree) (n : Node) (s : String Global) (r : NodeResolver) (k : StringResolver) → n ≡ node.Text s → k ≡ text_in (resolver_in r)
     → (st : State) × (r ≡ (archived_as wholes).resolver n st) → (st : State) × (k ≡ str_spelling.resolver (string_bytes s) st)
 text_made wholes n s r k is is_in made =
-    (made.0, is_in ∙ ap text_in (made.1 ∙ ap (λ t. (node_spelling wholes).resolver t made.0) (ap (node_tree wholes) is ∙ node_tree-text wholes s)))
+    (made.0, is_in ∙ ap (λ q. text_in (resolver_in q)) (made.1 ∙ ap (λ t. node_resolver ((node_spelling wholes).resolver t made.0)) (ap (node_tree wholes) is ∙ node_tree-text wholes s)))

@@ -1,5 +1,5 @@
 -- The wholes of nodes: that they are in a table, and what is written of the node in one.
-use Rattle.std.proofs.Common.{◌≡◌, ℕ, zero, suc, ◌+◌, ◌<◌, ◌==◌, cond, false, List, [], ◌∷◌, ◌++◌, length, get_or, slice_get, Option, Some, None, Result, Ok, Err, refl, sym, ap, subst, ◌∙◌, arith, append-nil, Global, String, Box, Vec}
+use Rattle.std.proofs.Common.{◌≡◌, ℕ, zero, suc, ◌+◌, ◌<◌, ◌==◌, cond, false, List, [], ◌∷◌, ◌++◌, length, get_or, slice_get, Option, Some, None, Ok, Err, refl, sym, ap, subst, ◌∙◌, arith, append-nil, Global, String, Box, Vec}
 use Rattle.std.specs.Prelude.{IfSome, IsTrue}
 use Rattle.std.proofs.lemmas.Bool.{ne_eqb}
 use Rattle.std.specs.BTreeMap.{BTreeMap}
@@ -14,22 +14,20 @@ use Rattle.archive_forms_laws.specs.Shared.{shared_padding}
 use Rattle.archive_forms_laws.specs.Serializing.{Serializes}
 use Rattle.archive_forms_laws.proofs.Regions.{region_end}
 use Rattle.archive_forms_writing.proofs.Laying.{Wrote}
-use Rattle.cabinet_text_grammar.specs.Keys.{ordered, hashed, kept}
-use Rattle.cabinet_text_grammar.specs.Tree as tree
 use Rattle.cabinet_text_grammar.specs.Tree.{Tree, depth, IsLegal}
 use Rattle.cabinet_text_grammar.specs.Wholes.{has, number_in, numbered, IsNumbered, AreNumbered, ArePairsNumbered, IsTable}
 use Rattle.cabinet_text_grammar.proofs.Tables.{number_back, numbered_back, legal_numbered, has_numbered, listed_table, listed_numbered}
 use Rattle.cabinet_documents.specs.Node.{node_shape, KnowsNode}
 use Rattle.cabinet_documents.specs.Spelling.{maybe_spelling, node_spelling}
 use Rattle.cabinet_documents.proofs.Levels.{node_spells_law}
-use Rattle.cabinet_text_nodes.specs.View.{node_tree, node_trees, node_pairs, table_of, whole_of}
+use Rattle.cabinet_text_nodes.specs.View.{node_tree, node_trees, node_pairs, table_of}
 use Rattle.cabinet_text_nodes.specs.declared.node.Node.{Node}
 use Rattle.cabinet_text_nodes.specs.declared.node.Node.TheVariants as node
 use Rattle.cabinet_text_nodes.proofs.Entries.{node_numbered, within_table, some_at}
 use Rattle.cabinet_text_nodes.proofs.Views.{node_tree-none, node_tree-some, node_tree-list, node_tree-ordered, node_tree-hashed, node_tree-kept, node_tree-whole}
-use Rattle.cabinet_archived.specs.Archived.{tree_within, most_within, most_in_pairs, tree_numbered}
+use Rattle.cabinet_archived.specs.Archived.{archived_as, tree_within, most_within, most_in_pairs, tree_numbered}
 use Rattle.cabinet_archived.proofs.Resolved.{whole_is}
-use Rattle.cabinet_archived.proofs.Written.{depth_within}
+use Rattle.cabinet_archived.proofs.Written.{depth_within, box_written}
 
 -- ---- where the wholes of a node are in a table, so are those of what lies in it
 
@@ -117,14 +115,6 @@ module _ (ns : List Node) (is : IsTable (table_of ns)) where
 
 -- ---- what is written of it
 
--- what is written of a tree is written of an equal one
-pub box_written :
-    {W : Type 0} (wholes : List Tree) (m : WriterMembers W) (u t : Tree) (old new : W) (result : Result ℕ Error)
-    → u ≡ t
-    → Serializes (box_spelling node_shape (node_spelling wholes)) m u old new result
-    → Serializes (box_spelling node_shape (node_spelling wholes)) m t old new result
-box_written wholes m u t old new result same h = subst (λ v. Serializes (box_spelling node_shape (node_spelling wholes)) m v old new result) same h
-
 -- a node has bytes, so no zero byte follows it
 pub no_padding : (wholes : List Tree) (t : Tree) (st : State) → region_fits (node_spelling wholes) node_shape (t ∷ []) st
     → zeros (shared_padding (region_at (node_spelling wholes) node_shape (t ∷ []) st) (st.pos + length (region_piece (node_spelling wholes) node_shape (t ∷ []) st))) ≡ []
@@ -147,15 +137,14 @@ wrote_none m w piece e = record {
 -- ---- an option that is some
 
 module _ (wholes : List Tree) {W : Type 0} (m : WriterMembers W) (o : Option (Box Node Global)) (b : Box Node Global) (n : Node) (old new : W) where
-  pub some_written : (pos : ℕ) → o ≡ Some b → n ≡ b.value → Serializes (box_spelling node_shape (node_spelling wholes)) m (node_tree wholes n) old new (Ok pos)
+  pub some_written : (pos : ℕ) → o ≡ Some b → n ≡ b.value → Serializes (box_spelling node_shape (archived_as wholes)) m n old new (Ok pos)
       → Serializes (maybe_spelling (node_spelling wholes)) m (tree_within wholes o) old new (Ok (Some (record { pos = pos })))
   some_written pos is same h =
       subst (λ x. Serializes (maybe_spelling (node_spelling wholes)) m (tree_within wholes x) old new (Ok (Some (record { pos = pos })))) (sym is)
-      (subst (λ k. Serializes (maybe_spelling (node_spelling wholes)) m (Some (node_tree wholes k)) old new (Ok (Some (record { pos = pos })))) same
-      (λ st at. let r = h st at in (r.0, (ap (λ q. Some (record { pos = q })) r.1.0, r.1.1, r.1.2))))
+      (λ st at. let r = box_written wholes m n (node_tree wholes b.value) old new (Ok pos) (ap (node_tree wholes) same) h st at in (r.0, (ap (λ q. Some (record { pos = q })) r.1.0, r.1.1, r.1.2)))
 
-  pub some_stopped : (e : Error) → o ≡ Some b → n ≡ b.value → Serializes (box_spelling node_shape (node_spelling wholes)) m (node_tree wholes n) old new (Err e)
+  pub some_stopped : (e : Error) → o ≡ Some b → n ≡ b.value → Serializes (box_spelling node_shape (archived_as wholes)) m n old new (Err e)
       → Serializes (maybe_spelling (node_spelling wholes)) m (tree_within wholes o) old new (Err e)
   some_stopped e is same h =
       subst (λ x. Serializes (maybe_spelling (node_spelling wholes)) m (tree_within wholes x) old new (Err e)) (sym is)
-      (subst (λ k. Serializes (maybe_spelling (node_spelling wholes)) m (Some (node_tree wholes k)) old new (Err e)) same h)
+      (box_written wholes m n (node_tree wholes b.value) old new (Err e) (ap (node_tree wholes) same) h)

@@ -1,17 +1,43 @@
 -- How a node is archived: as its tree under a table, by itself or beside the nodes of its document's table.
-use Rattle.std.specs.Prelude.{ℕ, List, [], Box, Option, Some, None, String}
+use Rattle.std.specs.Prelude.{ℕ, List, Box, Option, Some, None, String}
 use Rattle.std.specs.Global.{Global}
 use Rattle.archive_forms_laws.specs.Spelling.{Spelling}
-use Rattle.archive_forms_laws.specs.Forms.{seen_as}
+use Rattle.archive_forms_laws.specs.Forms.{seen_as, kept_as}
 use Rattle.cabinet_text_grammar.specs.Tree.{Tree, most_depth, pairs_depth}
-use Rattle.cabinet_documents.specs.declared.spelling.resolver.NodeResolver.{NodeResolver}
+use Rattle.cabinet_documents.specs.Resolver.{Resolver}
+use Rattle.cabinet_documents.specs.Resolver as resolver
 use Rattle.cabinet_documents.specs.Spelling.{node_spelling, trees_in, pairs_in}
 use Rattle.cabinet_text_nodes.specs.View.{no_tree, node_tree, node_trees, node_pairs, table_of}
 use Rattle.cabinet_text_nodes.specs.declared.node.Node.{Node}
 use Rattle.cabinet_archived.specs.declared.node_in.NodeIn.{NodeIn}
+use Rattle.cabinet_archived.specs.declared.resolver.NodeResolver.{NodeResolver}
+use Rattle.cabinet_archived.specs.declared.resolver.NodeResolver.TheVariants as variant
+
+-- what is kept of a node's data, in the type that the code has for it
+abbrev pub node_resolver : Resolver → NodeResolver
+node_resolver resolver.leaf = variant.Leaf
+node_resolver (resolver.text r) = variant.Text r
+node_resolver (resolver.shared r) = variant.Shared r
+node_resolver (resolver.maybe r) = variant.Maybe r
+node_resolver (resolver.list r) = variant.List r
+node_resolver (resolver.ordered r) = variant.Ordered r
+node_resolver (resolver.hashed r) = variant.Hashed r
+node_resolver (resolver.kept r) = variant.Kept r
+node_resolver (resolver.whole r) = variant.Whole r
+
+abbrev pub resolver_in : NodeResolver → Resolver
+resolver_in variant.Leaf = resolver.leaf
+resolver_in (variant.Text r) = resolver.text r
+resolver_in (variant.Shared r) = resolver.shared r
+resolver_in (variant.Maybe r) = resolver.maybe r
+resolver_in (variant.List r) = resolver.list r
+resolver_in (variant.Ordered r) = resolver.ordered r
+resolver_in (variant.Hashed r) = resolver.hashed r
+resolver_in (variant.Kept r) = resolver.kept r
+resolver_in (variant.Whole r) = resolver.whole r
 
 abbrev pub archived_as : List Tree → Spelling Node NodeResolver
-archived_as table = seen_as (node_tree table) (node_spelling table)
+archived_as table = kept_as node_resolver resolver_in (seen_as (node_tree table) (node_spelling table))
 
 -- the table of a node beside the nodes that have its trees
 abbrev pub table_in : NodeIn → List Tree

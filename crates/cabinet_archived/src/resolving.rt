@@ -7,10 +7,10 @@ ghost use Rattle.archive_shape.specs.Bytes.{HasBytes, zeros};
 ghost use Rattle.archive_forms_laws.specs.Serializing.{CanResolve, Resolves};
 ghost use Rattle.cabinet_documents.specs.Node.{node_shape, pair_shape, whole_shape};
 ghost use Rattle.cabinet_documents.specs.Spelling.{boxed_shape, node_spelling, shared_string_spelling, maybe_spelling, list_spelling, ordered_spelling, hashed_spelling, kept_spelling, whole_spelling, text_in, shared_in, maybe_in, list_in, ordered_in, hashed_in, kept_in, whole_in};
-ghost use Rattle.cabinet_archived.specs.Archived.{archived_as, table_in, tree_within, trees_within, pairs_within};
+ghost use Rattle.cabinet_archived.specs.Archived.{resolver_in, archived_as, table_in, tree_within, trees_within, pairs_within};
 ghost use Rattle.cabinet_text_grammar.specs.Tree.{Tree};
 
-use crate::{ArchivedNode, NodeIn, tag};
+use crate::{ArchivedNode, NodeIn, NodeResolver, tag};
 use archive_btree_maps::{ArchivedBTreeMap, BTreeMapResolver};
 use archive_forms_rc::{ArchivedRc, ArchivedRcStr, RcFlavor, RcResolver};
 use archive_forms_values::{
@@ -23,14 +23,13 @@ use archive_hash_maps::{ArchivedHashMap, HashMapResolver, HashTableResolver};
 use archive_hash_probing::FxHasher64;
 use archive_index::{ArchivedIndexMap, IndexMapResolver};
 use archive_shape::{Error, Place};
-use cabinet_documents::NodeResolver;
 use cabinet_text_nodes::Node;
 use std::collections::BTreeMap;
 use std::rc::RcStr;
 
 /// Returns the position of the bytes of a text.
 fn text_kept(resolver: NodeResolver) -> StringResolver
-    ensures { result ≡ text_in resolver }
+    ensures { result ≡ text_in (resolver_in resolver) }
 {
     match resolver {
         NodeResolver::Text(kept) => kept,
@@ -40,7 +39,7 @@ fn text_kept(resolver: NodeResolver) -> StringResolver
 
 /// Returns the position of a shared text.
 fn shared_kept(resolver: NodeResolver) -> RcResolver
-    ensures { result ≡ shared_in resolver }
+    ensures { result ≡ shared_in (resolver_in resolver) }
 {
     match resolver {
         NodeResolver::Shared(kept) => kept,
@@ -50,7 +49,7 @@ fn shared_kept(resolver: NodeResolver) -> RcResolver
 
 /// Returns the position of the node in an option, if there is one.
 fn maybe_kept(resolver: NodeResolver) -> Option<BoxResolver>
-    ensures { result ≡ maybe_in resolver }
+    ensures { result ≡ maybe_in (resolver_in resolver) }
 {
     match resolver {
         NodeResolver::Maybe(kept) => kept,
@@ -60,7 +59,7 @@ fn maybe_kept(resolver: NodeResolver) -> Option<BoxResolver>
 
 /// Returns the position of the elements of a list.
 fn list_kept(resolver: NodeResolver) -> VecResolver
-    ensures { result ≡ list_in resolver }
+    ensures { result ≡ list_in (resolver_in resolver) }
 {
     match resolver {
         NodeResolver::List(kept) => kept,
@@ -70,7 +69,7 @@ fn list_kept(resolver: NodeResolver) -> VecResolver
 
 /// Returns the position of the root of an ordered map's search tree, if the map has pairs.
 fn ordered_kept(resolver: NodeResolver) -> BTreeMapResolver
-    ensures { result ≡ ordered_in resolver }
+    ensures { result ≡ ordered_in (resolver_in resolver) }
 {
     match resolver {
         NodeResolver::Ordered(kept) => kept,
@@ -80,7 +79,7 @@ fn ordered_kept(resolver: NodeResolver) -> BTreeMapResolver
 
 /// Returns the position of the controls of a hashed map's table, if the map has pairs.
 fn hashed_kept(resolver: NodeResolver) -> HashTableResolver
-    ensures { result ≡ hashed_in resolver }
+    ensures { result ≡ hashed_in (resolver_in resolver) }
 {
     match resolver {
         NodeResolver::Hashed(kept) => kept,
@@ -90,7 +89,7 @@ fn hashed_kept(resolver: NodeResolver) -> HashTableResolver
 
 /// Returns the positions of the controls and of the entries of a kept map, if the map has pairs.
 fn index_kept(resolver: NodeResolver) -> IndexMapResolver
-    ensures { result ≡ kept_in resolver }
+    ensures { result ≡ kept_in (resolver_in resolver) }
 {
     match resolver {
         NodeResolver::Kept(kept) => kept,
@@ -103,7 +102,7 @@ fn index_kept(resolver: NodeResolver) -> IndexMapResolver
 
 /// Returns the position of the node in a whole.
 fn whole_kept(resolver: NodeResolver) -> RcResolver
-    ensures { result ≡ whole_in resolver }
+    ensures { result ≡ whole_in (resolver_in resolver) }
 {
     match resolver {
         NodeResolver::Whole(kept) => kept,

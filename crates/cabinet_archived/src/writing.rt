@@ -1,21 +1,23 @@
 //! Archives nodes, each by its kind and beside the table of its document.
-ghost use Rattle.std.specs.Prelude.{◌≡◌, ◌-◌, ◌^◌, ◌<◌, ◌≤◌, length, IfSome};
+ghost use Rattle.std.specs.Prelude.{◌≡◌, ◌-◌, ◌^◌, ◌<◌, ◌≤◌, length, refl, IfSome};
 ghost use Rattle.archive_forms_laws.specs.Serializing.{CanResolve, HasState, Resolves, Serializes, SerializesBy};
 ghost use Rattle.archive_forms_laws.specs.Pointers.{box_spelling};
 ghost use Rattle.archive_forms_laws.specs.Shared.{shared_value_spelling};
-ghost use Rattle.archive_forms_laws.proofs.Views.{seen_spells};
+ghost use Rattle.archive_forms_laws.specs.Forms.{seen_as};
+ghost use Rattle.archive_forms_laws.proofs.Views.{kept_spells, kept_spells_at, seen_spells};
 ghost use Rattle.cabinet_text_grammar.specs.Tree.{depth};
 ghost use Rattle.cabinet_text_grammar.specs.Wholes.{numbered, IsNumbered, AreNumbered, ArePairsNumbered, IsTable};
 ghost use Rattle.cabinet_documents.specs.Node.{node_shape, KnowsNode};
+ghost use Rattle.cabinet_documents.specs.Resolver as resolvers;
 ghost use Rattle.cabinet_documents.specs.SharedKeys.{key_of_whole};
 ghost use Rattle.archive_forms_writing.specs.Owned.{string_spelling};
 ghost use Rattle.cabinet_documents.specs.Spelling.{node_spelling, maybe_spelling, list_spelling, ordered_spelling, hashed_spelling, kept_spelling};
 ghost use Rattle.cabinet_documents.proofs.Levels.{node_spells_law};
-ghost use Rattle.cabinet_archived.specs.Archived.{archived_as, archived_in, table_in, tree_within, trees_within, most_within, pairs_within, most_in_pairs, tree_numbered};
+ghost use Rattle.cabinet_archived.specs.Archived.{node_resolver, resolver_in, archived_as, archived_in, table_in, tree_within, trees_within, most_within, pairs_within, most_in_pairs, tree_numbered};
 ghost use Rattle.cabinet_text_nodes.specs.View.{node_tree, node_trees, node_pairs, table_of};
 
 use crate::resolving::resolve_node;
-use crate::{ArchivedNode, NodeIn, NodeSharing, NodesIn};
+use crate::{ArchivedNode, NodeIn, NodeResolver, NodeSharing, NodesIn};
 use archive_btree_maps::BTreeMapResolver;
 use archive_forms_rc::RcResolver;
 use archive_forms_values::{ArchivedString, BoxResolver, StringResolver, VecResolver};
@@ -26,7 +28,6 @@ use archive_forms_writing::{
 use archive_hash_maps::HashTableResolver;
 use archive_index::IndexMapResolver;
 use archive_shape::{Error, Place, SharingState};
-use cabinet_documents::NodeResolver;
 use cabinet_text_nodes::Node;
 use std::collections::BTreeMap;
 use std::marker::PhantomData;
@@ -54,7 +55,20 @@ impl<'a> Archive for NodeIn<'a> {
     }
 
     ghost spells = { λ fit x.
-        let one = node_spells_law (table_in x) fit (node_tree (table_in x) x.node.now) in
+        let one = kept_spells_at fit node_shape KnowsNode node_resolver resolver_in
+        (elim [
+          | resolvers.leaf ↦ refl
+          | resolvers.text r ↦ refl
+          | resolvers.shared r ↦ refl
+          | resolvers.maybe r ↦ refl
+          | resolvers.list r ↦ refl
+          | resolvers.ordered r ↦ refl
+          | resolvers.hashed r ↦ refl
+          | resolvers.kept r ↦ refl
+          | resolvers.whole r ↦ refl
+        ])
+        (node_spelling (table_in x)) (node_tree (table_in x) x.node.now)
+        (node_spells_law (table_in x) fit (node_tree (table_in x) x.node.now)) in
         record {
           sized = one.sized;
           canonical = one.canonical;
@@ -100,8 +114,21 @@ impl<'a> ArchiveWith<Node> for NodesIn<'a> {
         resolve_node(node, resolver, Place::within(out, start, pos))
     }
 
-    ghost spells = { λ with fit. seen_spells fit node_shape KnowsNode (node_tree (table_of with.wholes.now))
-        (node_spelling (table_of with.wholes.now)) (node_spells_law (table_of with.wholes.now) fit) };
+    ghost spells = { λ with fit. kept_spells fit node_shape KnowsNode node_resolver resolver_in
+        (elim [
+          | resolvers.leaf ↦ refl
+          | resolvers.text r ↦ refl
+          | resolvers.shared r ↦ refl
+          | resolvers.maybe r ↦ refl
+          | resolvers.list r ↦ refl
+          | resolvers.ordered r ↦ refl
+          | resolvers.hashed r ↦ refl
+          | resolvers.kept r ↦ refl
+          | resolvers.whole r ↦ refl
+        ])
+        (seen_as (node_tree (table_of with.wholes.now)) (node_spelling (table_of with.wholes.now)))
+        (seen_spells fit node_shape KnowsNode (node_tree (table_of with.wholes.now))
+        (node_spelling (table_of with.wholes.now)) (node_spells_law (table_of with.wholes.now) fit)) };
 }
 
 /// Writes the data of the node in an option.

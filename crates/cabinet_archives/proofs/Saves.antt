@@ -18,8 +18,9 @@ use Rattle.cabinet_documents.specs.SpellingLaws.{archive_of, ArchiveFits, Archiv
 use Rattle.cabinet_documents.proofs.Imaged.{one_image_law}
 use Rattle.cabinet_documents.proofs.SpellingDenoted.{value_denotes_law}
 use Rattle.cabinet_documents.proofs.StoredNodes.{refused_is_past_law}
-use Rattle.cabinet_archived.specs.Archived.{archived_in, table_in}
+use Rattle.cabinet_archived.specs.Archived.{archived_as, archived_in, table_in}
 use Rattle.cabinet_archived.specs.declared.node_in.NodeIn.{NodeIn}
+use Rattle.cabinet_archived.proofs.Written.{box_written}
 use Rattle.cabinet_text_grammar.proofs.Tables.{document_table, document_numbered}
 use Rattle.cabinet_text_nodes.specs.View.{node_tree}
 use Rattle.cabinet_archives.specs.declared.saving.saving.SaveRefusal.{SaveRefusal}
@@ -32,8 +33,8 @@ pub as_document : {S : Type 0} (m : WriterMembers S) (x : NodeIn) (t : Tree) (ol
     → Serializes (box_spelling node_shape archived_in) m x old new result
     → Serializes (box_spelling node_shape (node_spelling (wholes_of t))) m t old new result
 as_document m x t old new result table seen h =
-    subst (λ u. Serializes (box_spelling node_shape (node_spelling (wholes_of t))) m u old new result) seen
-    (subst (λ w. Serializes (box_spelling node_shape (node_spelling w)) m (node_tree w x.node.now) old new result) table h)
+    box_written (wholes_of t) m x.node.now t old new result seen
+    (subst (λ w. Serializes (box_spelling node_shape (archived_as w)) m x.node.now old new result) table h)
 
 -- the wholes of a document's root are in its table
 pub root_in_table : (x : NodeIn) (t : Tree) → table_in x ≡ wholes_of t → node_tree (wholes_of t) x.node.now ≡ t → IsDocument t

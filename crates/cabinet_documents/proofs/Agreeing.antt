@@ -29,8 +29,8 @@ use Rattle.cabinet_text_grammar.specs.Tree as document
 use Rattle.cabinet_text_grammar.specs.Tree.{Tree, Trees, Pairs, leaf, shared, nothing, just, list, map, whole, no_trees, more_trees, no_pairs, more_pairs, depth, most_depth, pairs_depth}
 use Rattle.cabinet_documents.specs.Node.{node_shape, pair_shape, whole_shape, payloads}
 use Rattle.cabinet_documents.specs.SharedKeys.{key_of_whole}
-use Rattle.cabinet_documents.specs.declared.spelling.resolver.NodeResolver.{NodeResolver}
-use Rattle.cabinet_documents.specs.declared.spelling.resolver.NodeResolver.TheVariants as resolver
+use Rattle.cabinet_documents.specs.Resolver.{Resolver}
+use Rattle.cabinet_documents.specs.Resolver as resolver
 use Rattle.cabinet_documents.specs.Spelling.{boxed_shape, boxed_spelling, maybe_spelling, list_spelling, ordered_spelling, pair_spelling, hashed_spelling, kept_spelling, trees_in, pairs_in, maybe_in, list_in, ordered_in, hashed_in, kept_in, whole_in, whole_spelling, node_of, refused, node_level, node_spelling}
 use Rattle.cabinet_documents.specs.SpellingLaws.{OneLevelIsWritten}
 use Rattle.cabinet_documents.proofs.SharedAgreeing.{shared_agree}
@@ -96,7 +96,7 @@ module _ {A R : Type 0} (w u : Spelling A R) (x : A) (same : said w x ≡ said u
       suits = (same i).suits;
     }
 
-  node_of_agrees : (tag : ℕ) (s : Shape) (make : R → NodeResolver) (get : NodeResolver → R) (t : Tree)
+  node_of_agrees : (tag : ℕ) (s : Shape) (make : R → Resolver) (get : Resolver → R) (t : Tree)
       → said (node_of tag s w make get x) t ≡ said (node_of tag s u make get x) t
   node_of_agrees tag s make get t =
       let offset = align_up 1 (align_of s) in
@@ -146,14 +146,14 @@ module _ {A R : Type 0} (w u : Spelling A R) (s : Shape) where
 
 -- ---- nodes
 
-trees_agree : (w u : Spelling Tree NodeResolver) (n : ℕ) (ts : Trees) → suc (most_depth ts) ≤ n → ((y : Tree) → suc (depth y) ≤ n → said w y ≡ said u y) → AgreeOn w u (trees_in ts)
+trees_agree : (w u : Spelling Tree Resolver) (n : ℕ) (ts : Trees) → suc (most_depth ts) ≤ n → ((y : Tree) → suc (depth y) ≤ n → said w y ≡ said u y) → AgreeOn w u (trees_in ts)
 trees_agree w u n no_trees less same = tt
 trees_agree w u n (more_trees t ts) less same =
     let a = le-max_left (depth t) (most_depth ts) in
     let b = le-max_right (depth t) (most_depth ts) in
     (same t (omega (arith, a)), trees_agree w u n ts (omega (arith, b)) same)
 
-pairs_agree : (w u : Spelling Tree NodeResolver) (n : ℕ) (ps : Pairs) → suc (pairs_depth ps) ≤ n → ((y : Tree) → suc (depth y) ≤ n → said w y ≡ said u y) → AgreeOn w u (mapped (λ (e : List ℕ × Tree). e.1) (pairs_in ps))
+pairs_agree : (w u : Spelling Tree Resolver) (n : ℕ) (ps : Pairs) → suc (pairs_depth ps) ≤ n → ((y : Tree) → suc (depth y) ≤ n → said w y ≡ said u y) → AgreeOn w u (mapped (λ (e : List ℕ × Tree). e.1) (pairs_in ps))
 pairs_agree w u n no_pairs less same = tt
 pairs_agree w u n (more_pairs k t ps) less same =
     let a = le-max_left (depth t) (pairs_depth ps) in
@@ -161,53 +161,53 @@ pairs_agree w u n (more_pairs k t ps) less same =
     (same t (omega (arith, a)), pairs_agree w u n ps (omega (arith, b)) same)
 
 -- a pair by its value
-pair_agrees : (w u : Spelling Tree NodeResolver) (p : List ℕ × Tree) → said w p.1 ≡ said u p.1 → said (pair_spelling w) p ≡ said (pair_spelling u) p
+pair_agrees : (w u : Spelling Tree Resolver) (p : List ℕ × Tree) → said w p.1 ≡ said u p.1 → said (pair_spelling w) p ≡ said (pair_spelling u) p
 pair_agrees w u p same = ap (λ s. said (tuple2_spelling text str_spelling node_shape s) (p.0, 0)) (one_spelling w u (λ (i : ℕ). p.1) (λ i. same))
 
-all_pairs_agree : (w u : Spelling Tree NodeResolver) (xs : List (List ℕ × Tree)) → AgreeOn w u (mapped (λ (e : List ℕ × Tree). e.1) xs) → AgreeOn (pair_spelling w) (pair_spelling u) xs
+all_pairs_agree : (w u : Spelling Tree Resolver) (xs : List (List ℕ × Tree)) → AgreeOn w u (mapped (λ (e : List ℕ × Tree). e.1) xs) → AgreeOn (pair_spelling w) (pair_spelling u) xs
 all_pairs_agree w u [] h = tt
 all_pairs_agree w u (x ∷ xs) h = (pair_agrees w u x h.0, all_pairs_agree w u xs h.1)
 
-level_agrees : (wholes : List Tree) (w u : Spelling Tree NodeResolver) (t : Tree) → ((y : Tree) → suc (depth y) ≤ depth t → said w y ≡ said u y) → said (node_level wholes w) t ≡ said (node_level wholes u) t
+level_agrees : (wholes : List Tree) (w u : Spelling Tree Resolver) (t : Tree) → ((y : Tree) → suc (depth y) ≤ depth t → said w y ≡ said u y) → said (node_level wholes w) t ≡ said (node_level wholes u) t
 level_agrees wholes w u (leaf (document.truth b)) same = refl
 level_agrees wholes w u (leaf (document.number n)) same = refl
 level_agrees wholes w u (leaf (document.text s)) same = refl
 level_agrees wholes w u (shared s) same = refl
 level_agrees wholes w u nothing same =
-    node_of_agrees (maybe_spelling w) (maybe_spelling u) None (none_agree (boxed_spelling w) (boxed_spelling u) boxed_shape) 4 (option boxed_shape) resolver.Maybe maybe_in nothing
+    node_of_agrees (maybe_spelling w) (maybe_spelling u) None (none_agree (boxed_spelling w) (boxed_spelling u) boxed_shape) 4 (option boxed_shape) resolver.maybe maybe_in nothing
 level_agrees wholes w u (just t) same =
     let box = boxes_agree w u t (same t (omega arith)) node_shape in
     let kept = kept_agree (box_spelling node_shape w) (box_spelling node_shape u) t box (λ n. record { pos = n }) (λ r. r.pos) in
-    node_of_agrees (maybe_spelling w) (maybe_spelling u) (Some t) (some_agree (boxed_spelling w) (boxed_spelling u) t kept boxed_shape) 4 (option boxed_shape) resolver.Maybe maybe_in (just t)
+    node_of_agrees (maybe_spelling w) (maybe_spelling u) (Some t) (some_agree (boxed_spelling w) (boxed_spelling u) t kept boxed_shape) 4 (option boxed_shape) resolver.maybe maybe_in (just t)
 level_agrees wholes w u (list ts) same =
     let xs = trees_in ts in
     let all = slices_agree w u node_shape xs (trees_agree w u (suc (most_depth ts)) ts (omega arith) same) in
     let kept = kept_agree (slice_spelling node_shape w) (slice_spelling node_shape u) xs all (λ n. record { pos = n }) (λ r. r.pos) in
-    node_of_agrees (list_spelling w) (list_spelling u) xs kept 5 (vector node_shape) resolver.List list_in (list ts)
+    node_of_agrees (list_spelling w) (list_spelling u) xs kept 5 (vector node_shape) resolver.list list_in (list ts)
 level_agrees wholes w u (map ordered ps) same =
     let xs = pairs_in ps in
     let all = btree_agrees 5 text node_shape str_spelling w u xs (pairs_agree w u (suc (pairs_depth ps)) ps (omega arith) same) in
     let kept = kept_agree (btree_spelling 5 text node_shape str_spelling w) (btree_spelling 5 text node_shape str_spelling u) xs all (λ o. record { pos = o }) (λ r. r.pos) in
-    node_of_agrees (ordered_spelling w) (ordered_spelling u) xs kept 6 (tree 5 text node_shape) resolver.Ordered ordered_in (map ordered ps)
+    node_of_agrees (ordered_spelling w) (ordered_spelling u) xs kept 6 (tree 5 text node_shape) resolver.ordered ordered_in (map ordered ps)
 level_agrees wholes w u (map hashed ps) same =
     let xs = pairs_in ps in
     let hash : List ℕ × Tree → ℕ = λ p. text_hash p.0 in
     let pairs = all_pairs_agree w u xs (pairs_agree w u (suc (pairs_depth ps)) ps (omega arith) same) in
     let all = tables_agree (pair_spelling w) (pair_spelling u) pair_shape 7 8 hash xs pairs in
     let kept = kept_agree (table_spelling 7 8 pair_shape (pair_spelling w) hash) (table_spelling 7 8 pair_shape (pair_spelling u) hash) xs all (λ o. record { pos = o }) (λ r. r.pos) in
-    node_of_agrees (hashed_spelling w) (hashed_spelling u) xs kept 7 (table pair_shape) resolver.Hashed hashed_in (map hashed ps)
+    node_of_agrees (hashed_spelling w) (hashed_spelling u) xs kept 7 (table pair_shape) resolver.hashed hashed_in (map hashed ps)
 level_agrees wholes w u (map kept ps) same =
     let xs = pairs_in ps in
     let hash : List ℕ × Tree → ℕ = λ p. text_hash p.0 in
     let pairs = all_pairs_agree w u xs (pairs_agree w u (suc (pairs_depth ps)) ps (omega arith) same) in
     let all = index_agrees (pair_spelling w) (pair_spelling u) pair_shape 7 8 hash xs pairs in
     let one = kept_agree (index_spelling 7 8 pair_shape (pair_spelling w) hash) (index_spelling 7 8 pair_shape (pair_spelling u) hash) xs all resolver_of positions_of in
-    node_of_agrees (kept_spelling w) (kept_spelling u) xs one 8 (index_map text node_shape) resolver.Kept kept_in (map kept ps)
+    node_of_agrees (kept_spelling w) (kept_spelling u) xs one 8 (index_map text node_shape) resolver.kept kept_in (map kept ps)
 level_agrees wholes w u (whole t) same =
     let box = boxes_agree w u t (same t (omega arith)) node_shape in
     let counted = shared_agree (sized node_shape) (λ x. 1) (key_of_whole wholes) (box_spelling node_shape w) (box_spelling node_shape u) t box in
     let kept = kept_agree (shared_value_spelling node_shape (key_of_whole wholes) w) (shared_value_spelling node_shape (key_of_whole wholes) u) t counted (λ n. record { pos = n }) (λ r. r.pos) in
-    node_of_agrees (whole_spelling wholes w) (whole_spelling wholes u) t kept 9 whole_shape resolver.Whole whole_in (whole t)
+    node_of_agrees (whole_spelling wholes w) (whole_spelling wholes u) t kept 9 whole_shape resolver.whole whole_in (whole t)
 
 pub node_said : (wholes : List Tree) (t : Tree) → said (node_level wholes (node_spelling wholes)) t ≡ said (node_spelling wholes) t
 node_said wholes = self_agrees (node_level wholes) refused depth (level_agrees wholes)

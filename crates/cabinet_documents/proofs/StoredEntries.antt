@@ -19,7 +19,7 @@ use Rattle.archive_btree_spelling.proofs.Parting.{EachIs}
 use Rattle.archive_btree_spelling.proofs.Planned.{EntryPlans, ChildPlans}
 use Rattle.cabinet_text_grammar.specs.Tree.{Tree}
 use Rattle.cabinet_documents.specs.Node.{node_shape, node_names}
-use Rattle.cabinet_documents.specs.declared.spelling.resolver.NodeResolver.{NodeResolver}
+use Rattle.cabinet_documents.specs.Resolver.{Resolver}
 use Rattle.cabinet_documents.specs.Spelling.{pair_spelling}
 use Rattle.cabinet_documents.proofs.Values.{entry_value}
 use Rattle.cabinet_documents.proofs.Plans.{EntriesPlan}
@@ -31,7 +31,7 @@ use Rattle.cabinet_documents.proofs.StoredPairs.{Entry, KeyRefused, ValueRefused
 -- ---- entries
 
 module _ (g : Sharing) where
-  module _ (w : Spelling Tree NodeResolver) where
+  module _ (w : Spelling Tree Resolver) where
     -- the own bytes of keys or of values side by side, from a position on, exceed a limit
     abbrev pub KeysRefused : List Entry → State → ℕ → Error → Type 0
     KeysRefused xs s a e = AnySlot (state_after (pair_spelling w)) (size_of text) (λ x then at. KeyRefused g w x then at e) xs s a

@@ -28,7 +28,7 @@ use Rattle.archive_hash_writing.specs.IndexMaps.{numbers, numbers_spelling, stat
 use Rattle.archive_hash_writing.proofs.IndexMaps.{numbers_met, numbers_pos}
 use Rattle.cabinet_text_grammar.specs.Tree.{Tree}
 use Rattle.cabinet_documents.specs.Node.{pair_shape}
-use Rattle.cabinet_documents.specs.declared.spelling.resolver.NodeResolver.{NodeResolver}
+use Rattle.cabinet_documents.specs.Resolver.{Resolver}
 use Rattle.cabinet_documents.specs.Spelling.{pair_spelling, kept_spelling}
 use Rattle.cabinet_documents.proofs.PlacedPairs.{pair_hashes}
 use Rattle.cabinet_documents.proofs.Values.{entry_value}
@@ -74,7 +74,7 @@ module _ (g : Sharing) where
 
   -- ---- kept maps
 
-  module _ (w : Spelling Tree NodeResolver) (fit : Fit) where
+  module _ (w : Spelling Tree Resolver) (fit : Fit) where
     abbrev Tells : Entry → Type 0
     Tells x = TellsValue g fit pair_shape entry_value (pair_spelling w) x
 

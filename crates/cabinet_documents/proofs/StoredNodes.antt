@@ -45,8 +45,8 @@ use Rattle.cabinet_text_grammar.specs.Wholes.{has, wholes_of, IsNumbered, AreNum
 use Rattle.cabinet_text_grammar.proofs.Tables.{listed_table, listed_numbered, document_table, document_numbered}
 use Rattle.cabinet_documents.specs.Node.{node_shape, node_names, pair_shape, whole_shape}
 use Rattle.cabinet_documents.specs.Denotes.{tagged_value}
-use Rattle.cabinet_documents.specs.declared.spelling.resolver.NodeResolver.{NodeResolver}
-use Rattle.cabinet_documents.specs.declared.spelling.resolver.NodeResolver.TheVariants as resolver
+use Rattle.cabinet_documents.specs.Resolver.{Resolver}
+use Rattle.cabinet_documents.specs.Resolver as resolver
 use Rattle.cabinet_documents.specs.Spelling.{truth_spelling, number_spelling, shared_string_spelling, boxed_shape, boxed_spelling, maybe_spelling, list_spelling, ordered_spelling, hashed_spelling, kept_spelling, whole_spelling, trees_in, pairs_in, text_in, shared_in, maybe_in, list_in, ordered_in, hashed_in, kept_in, whole_in, refused, spelling_of, node_level, node_spelling}
 use Rattle.cabinet_documents.specs.SpellingLaws.{RefusedIsPast}
 use Rattle.cabinet_documents.proofs.FirstFit.{by_first_fit}
@@ -84,7 +84,7 @@ index_length None (Some start) pos n cap = refl
 index_length (Some to) None pos n cap = refl
 index_length (Some to) (Some start) pos n cap = refl
 
-module _ (wholes : List Tree) (w : Spelling Tree NodeResolver) where
+module _ (wholes : List Tree) (w : Spelling Tree Resolver) where
   none_length : (r : Option BoxResolver) (pos : ℕ) → length (option_own boxed_shape (boxed_spelling w) None r pos) ≡ 8
   unfolding align_up
   none_length None pos = length-replicate {A = ℕ} 8 0
@@ -95,7 +95,7 @@ module _ (wholes : List Tree) (w : Spelling Tree NodeResolver) where
   some_length t None pos = length-replicate {A = ℕ} 8 0
   some_length t (Some r) pos = length-tagged 1 4 8 (offset_bytes (pos + 4) r.pos) (omega arith) (omega arith)
 
-  node_length : (t : Tree) → (r : NodeResolver) (pos : ℕ) → length ((node_level wholes w).own t r pos) ≡ 24
+  node_length : (t : Tree) → (r : Resolver) (pos : ℕ) → length ((node_level wholes w).own t r pos) ≡ 24
   unfolding align_up
   node_length (leaf (document.truth b)) r pos = let n = truth_length b in length-tagged 0 1 24 (truth_bytes b) (omega arith) (omega (arith, n))
   node_length (leaf (document.number z)) r pos = length-tagged 1 8 24 (to_le_bytes w64 (cast_unsigned w64 z)) (omega arith) (omega arith)
@@ -133,7 +133,7 @@ module _ (wholes : List Tree) (w : Spelling Tree NodeResolver) where
 
 -- ---- one level of nodes
 
-module _ (fit : Fit) (fills : FillsMaps fit) (wholes : List Tree) (is_table : IsTable wholes) (w : Spelling Tree NodeResolver) where
+module _ (fit : Fit) (fills : FillsMaps fit) (wholes : List Tree) (is_table : IsTable wholes) (w : Spelling Tree Resolver) where
   abbrev by : ℕ → Sharing
   by d = shares wholes is_table d
 
@@ -173,7 +173,7 @@ module _ (fit : Fit) (fills : FillsMaps fit) (wholes : List Tree) (is_table : Is
       let l = part_lies (align_up 1 (align_of truth)) own q.inner (laid s seen) c fs (subst (λ z. Lies z own (laid s seen) fs c) q.is h) in
       let ends = flat_lies (own + align_up 1 (align_of truth)) (laid s seen) c l.0 (subst (λ z. Lies z (own + align_up 1 (align_of truth)) (laid s seen) l.0 c) (truth_planned fit x.inner q.inner q.planned) l.1) in
       as_level d (leaf (document.truth b)) s own fs c
-      (node_reads (by d) 0 truth truth_spelling (λ _. resolver.Leaf) (λ _. tt) b (leaf (document.truth b)) s own l.0 fs c refl
+      (node_reads (by d) 0 truth truth_spelling (λ _. resolver.leaf) (λ _. tt) b (leaf (document.truth b)) s own l.0 fs c refl
       (no_fields (by d) truth_spelling b s seen (own + align_up 1 (align_of truth)) l.0 c alike refl refl (λ e r. r) (λ e r. r) ends) l.2)
   level_reads n each d (leaf (document.number z)) less deep legal known v p same planned s seen alike begun own fs c h =
       let shape = number w64 true in
@@ -182,14 +182,14 @@ module _ (fit : Fit) (fills : FillsMaps fit) (wholes : List Tree) (is_table : Is
       let l = part_lies (align_up 1 (align_of shape)) own q.inner (laid s seen) c fs (subst (λ y. Lies y own (laid s seen) fs c) q.is h) in
       let ends = flat_lies (own + align_up 1 (align_of shape)) (laid s seen) c l.0 (subst (λ y. Lies y (own + align_up 1 (align_of shape)) (laid s seen) l.0 c) (number_planned fit x.inner q.inner q.planned) l.1) in
       as_level d (leaf (document.number z)) s own fs c
-      (node_reads (by d) 1 shape number_spelling (λ _. resolver.Leaf) (λ _. tt) z (leaf (document.number z)) s own l.0 fs c refl
+      (node_reads (by d) 1 shape number_spelling (λ _. resolver.leaf) (λ _. tt) z (leaf (document.number z)) s own l.0 fs c refl
       (no_fields (by d) number_spelling z s seen (own + align_up 1 (align_of shape)) l.0 c alike refl refl (λ e r. r) (λ e r. r) ends) l.2)
   level_reads n each d (leaf (document.text t)) less deep legal known v p same planned s seen alike begun own fs c h =
       let is = simply_tagged 2 (string t) v tt same in
       let q = node_planned fit 2 text (string t) v p is refl planned in
       let l = part_lies (align_up 1 (align_of text)) own q.inner (laid s seen) c fs (subst (λ y. Lies y own (laid s seen) fs c) q.is h) in
       as_level d (leaf (document.text t)) s own fs c
-      (node_reads (by d) 2 text str_spelling resolver.Text text_in t (leaf (document.text t)) s own l.0 fs c refl
+      (node_reads (by d) 2 text str_spelling resolver.text text_in t (leaf (document.text t)) s own l.0 fs c refl
       (text_reads (by d) t s seen (own + align_up 1 (align_of text)) q.inner l.0 c (text_planned fit t (string t) q.inner refl q.planned) alike l.1) l.2)
   level_reads n each d (shared t) less deep legal known v p same planned s seen alike begun own fs c h =
       let shape = shared_shape false str in
@@ -198,7 +198,7 @@ module _ (fit : Fit) (fills : FillsMaps fit) (wholes : List Tree) (is_table : Is
       let q = node_planned fit 3 shape x.inner v p x.is refl planned in
       let l = part_lies (align_up 1 (align_of shape)) own q.inner (laid s seen) c fs (subst (λ z. Lies z own (laid s seen) fs c) q.is h) in
       as_level d (shared t) s own fs c
-      (node_reads (by d) 3 shape shared_string_spelling resolver.Shared shared_in t (shared t) s own l.0 fs c refl
+      (node_reads (by d) 3 shape shared_string_spelling resolver.shared shared_in t (shared t) s own l.0 fs c refl
       (shared_reads (by d) t s seen alike begun (own + align_up 1 (align_of shape)) q.inner l.0 c (shared_planned fit y.pos t x.inner q.inner y.is q.planned) l.1) l.2)
   level_reads n each d nothing less deep legal known v p same planned s seen alike begun own fs c h =
       let shape = option boxed_shape in
@@ -207,7 +207,7 @@ module _ (fit : Fit) (fills : FillsMaps fit) (wholes : List Tree) (is_table : Is
       let l = part_lies (align_up 1 (align_of shape)) own q.inner (laid s seen) c fs (subst (λ z. Lies z own (laid s seen) fs c) q.is h) in
       let ends = flat_lies (own + align_up 1 (align_of shape)) (laid s seen) c l.0 (subst (λ y. Lies y (own + align_up 1 (align_of shape)) (laid s seen) l.0 c) (none_planned fit (chosen 0 no_values) q.inner refl q.planned) l.1) in
       as_level d nothing s own fs c
-      (node_reads (by d) 4 shape (maybe_spelling w) resolver.Maybe maybe_in None nothing s own l.0 fs c refl
+      (node_reads (by d) 4 shape (maybe_spelling w) resolver.maybe maybe_in None nothing s own l.0 fs c refl
       (no_fields (by d) (maybe_spelling w) None s seen (own + align_up 1 (align_of shape)) l.0 c alike refl refl (λ e r. r) (λ e r. r) ends) l.2)
   level_reads n each d (just t) less deep legal known v p same planned s seen alike begun own fs c h =
       let shape = option boxed_shape in
@@ -221,7 +221,7 @@ module _ (fit : Fit) (fills : FillsMaps fit) (wholes : List Tree) (is_table : Is
       let box = box_planned fit y.inner some.0 some.1 in
       let region = box_region (by d) fit w t (each d t less (omega (arith, deep)) legal known) y.inner box.inner some.0 y.same box.planned box.is s seen alike begun (at + align_up 1 (align_of boxed_shape)) m.0 c m.1 in
       as_level d (just t) s own fs c
-      (node_reads (by d) 4 shape (maybe_spelling w) resolver.Maybe maybe_in (Some t) (just t) s own l.0 fs c refl
+      (node_reads (by d) 4 shape (maybe_spelling w) resolver.maybe maybe_in (Some t) (just t) s own l.0 fs c refl
       (some_reads (by d) fit w t s at m.0 l.0 c (box_reads (by d) fit w t s (at + align_up 1 (align_of boxed_shape)) m.0 c region) m.2) l.2)
   level_reads n each d (list ts) less deep legal known v p same planned s seen alike begun own fs c h =
       let shape = vector node_shape in
@@ -234,7 +234,7 @@ module _ (fit : Fit) (fills : FillsMaps fit) (wholes : List Tree) (is_table : Is
       let is = many.is ∙ ap (λ k. slice_plan node_shape (k ∷ []) (count_values y.inner) many.inner) (length-values value_of (trees_in ts) y.inner these) in
       let region = slice_region (by d) fit node_shape value_of w (trees_in ts) (trees_tell n each d ts less (omega (arith, deep)) legal.0 known) y.inner many.inner q.inner (length (trees_in ts) ∷ []) these many.planned is s seen alike begun (own + align_up 1 (align_of shape)) l.0 c l.1 in
       as_level d (list ts) s own fs c
-      (node_reads (by d) 5 shape (list_spelling w) resolver.List list_in (trees_in ts) (list ts) s own l.0 fs c refl
+      (node_reads (by d) 5 shape (list_spelling w) resolver.list list_in (trees_in ts) (list ts) s own l.0 fs c refl
       (list_reads (by d) fit w (trees_in ts) s (own + align_up 1 (align_of shape)) l.0 c region) l.2)
   level_reads n each d (map ordered ps) less deep legal known v p same planned s seen alike begun own fs c h =
       let shape = tree 5 text node_shape in
@@ -245,7 +245,7 @@ module _ (fit : Fit) (fills : FillsMaps fit) (wholes : List Tree) (is_table : Is
       let l = part_lies (align_up 1 (align_of shape)) own q.inner (laid s seen) c fs (subst (λ z. Lies z own (laid s seen) fs c) q.is h) in
       let m = map_planned fit xs y.inner x.inner q.inner y.is (y.same ∙ entry_values fit ps) q.planned in
       as_level d (map ordered ps) s own fs c
-      (node_reads (by d) 6 shape (ordered_spelling w) resolver.Ordered ordered_in xs (map ordered ps) s own l.0 fs c refl
+      (node_reads (by d) 6 shape (ordered_spelling w) resolver.ordered ordered_in xs (map ordered ps) s own l.0 fs c refl
       (map_reads (by d) w fit xs q.inner m (pairs_tell n each d ordered [] ps less (omega (arith, deep)) legal.0 known) s seen alike begun (own + align_up 1 (align_of shape)) l.0 c l.1) l.2)
   level_reads n each d (map hashed ps) less deep legal known v p same planned s seen alike begun own fs c h =
       let shape = table pair_shape in
@@ -258,7 +258,7 @@ module _ (fit : Fit) (fills : FillsMaps fit) (wholes : List Tree) (is_table : Is
       let filled = fills.hashed_maps ps legal.0 in
       let m = pairs_planned fit xs vs y.inner x.inner q.inner filled y.is y.same q.planned in
       as_level d (map hashed ps) s own fs c
-      (node_reads (by d) 7 shape (hashed_spelling w) resolver.Hashed hashed_in xs (map hashed ps) s own l.0 fs c refl
+      (node_reads (by d) 7 shape (hashed_spelling w) resolver.hashed hashed_in xs (map hashed ps) s own l.0 fs c refl
       (hashed_reads (by d) w fit xs vs q.inner filled m (pairs_tell n each d hashed [] ps less (omega (arith, deep)) legal.0 known) s seen alike begun (own + align_up 1 (align_of shape)) l.0 c l.1) l.2)
   level_reads n each d (map kept ps) less deep legal known v p same planned s seen alike begun own fs c h =
       let shape = index_map text node_shape in
@@ -270,7 +270,7 @@ module _ (fit : Fit) (fills : FillsMaps fit) (wholes : List Tree) (is_table : Is
       let these = ap listed y.same ∙ pairs_listed ps in
       let m = kept_planned fit fills.kept_maps xs y.inner x.inner q.inner y.is these q.planned in
       as_level d (map kept ps) s own fs c
-      (node_reads (by d) 8 shape (kept_spelling w) resolver.Kept kept_in xs (map kept ps) s own l.0 fs c refl
+      (node_reads (by d) 8 shape (kept_spelling w) resolver.kept kept_in xs (map kept ps) s own l.0 fs c refl
       (kept_reads (by d) w fit xs y.inner q.inner these m (pairs_tell n each d kept [] ps less (omega (arith, deep)) legal.0 known) s seen alike begun (own + align_up 1 (align_of shape)) l.0 c l.1) l.2)
   level_reads n each d (whole t) less deep legal known v p same planned s seen alike begun own fs c h =
       let x = tagged 9 (counted 0 (value_of t)) v same in
@@ -280,7 +280,7 @@ module _ (fit : Fit) (fills : FillsMaps fit) (wholes : List Tree) (is_table : Is
       let m = whole_planned fit y.pos (value_of t) y.inner x.inner q.inner y.is y.same q.planned in
       let tell = each (depth t) t less (omega arith) legal (listed_numbered wholes t (listed_table wholes is_table) known) in
       as_level d (whole t) s own fs c
-      (node_reads (by d) 9 whole_shape (whole_spelling wholes w) resolver.Whole whole_in t (whole t) s own l.0 fs c refl
+      (node_reads (by d) 9 whole_shape (whole_spelling wholes w) resolver.whole whole_in t (whole t) s own l.0 fs c refl
       (whole_reads fit wholes is_table w d t deep known tell y.inner m.inner y.same m.planned s seen alike begun (own + align_up 1 (align_of whole_shape)) q.inner l.0 c m.is l.1) l.2)
 
   level_lies : (n : ℕ) → EachTells n → (d : ℕ) (t : Tree) → depth t ≤ n → depth t ≤ d → IsLegal t → IsNumbered wholes t → LiesNode (by d) fit (node_level wholes w) t

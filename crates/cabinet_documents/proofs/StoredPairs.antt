@@ -18,7 +18,7 @@ use Rattle.archive_btree_spelling.proofs.Planned.{pair, EntryPlan}
 use Rattle.cabinet_text_grammar.specs.Tree.{Tree}
 use Rattle.cabinet_documents.specs.Node.{node_shape, node_names, pair_shape}
 use Rattle.cabinet_documents.specs.Denotes.{pair_value}
-use Rattle.cabinet_documents.specs.declared.spelling.resolver.NodeResolver.{NodeResolver}
+use Rattle.cabinet_documents.specs.Resolver.{Resolver}
 use Rattle.cabinet_documents.specs.Spelling.{pair_spelling}
 use Rattle.cabinet_documents.proofs.Values.{value_of, entry_value}
 use Rattle.cabinet_documents.proofs.SpellingDenoted.{paired}
@@ -32,7 +32,7 @@ abbrev pub Entry : Type 0
 Entry = List ℕ × Tree
 
 module _ (g : Sharing) where
-  module _ (w : Spelling Tree NodeResolver) where
+  module _ (w : Spelling Tree Resolver) where
     -- the own bytes of a key at a position, and those of its document, exceed a limit
     abbrev pub KeyRefused : Entry → State → ℕ → Error → Type 0
     KeyRefused x s a e = str_spelling.own_refused x.0 (str_spelling.resolver x.0 s) a e

@@ -22,7 +22,7 @@ use Rattle.archive_hash_writing.proofs.Planned.{table_target, ItemPlans}
 use Rattle.archive_hash_writing.proofs.SpellingFitting.{length-table}
 use Rattle.cabinet_text_grammar.specs.Tree.{Tree}
 use Rattle.cabinet_documents.specs.Node.{KnowsNode, node_names, pair_shape}
-use Rattle.cabinet_documents.specs.declared.spelling.resolver.NodeResolver.{NodeResolver}
+use Rattle.cabinet_documents.specs.Resolver.{Resolver}
 use Rattle.cabinet_documents.specs.Spelling.{pair_spelling, hashed_spelling}
 use Rattle.cabinet_documents.proofs.PlacedPairs.{pair_hashes}
 use Rattle.cabinet_documents.proofs.Values.{entry_value}
@@ -141,7 +141,7 @@ module _ (g : Sharing) where
 
   -- ---- hashed maps
 
-  module _ (w : Spelling Tree NodeResolver) (fit : Fit) where
+  module _ (w : Spelling Tree Resolver) (fit : Fit) where
     pub all_tell : (xs : List Entry) → EachIs (TellsEntry g w fit) xs → AllByRecursion (TellsValue g fit pair_shape entry_value (pair_spelling w)) xs
     all_tell [] each = tt
     all_tell (x ∷ xs) each = (pair_tells g w fit x each.0, all_tell xs each.1)

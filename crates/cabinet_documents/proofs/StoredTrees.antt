@@ -28,7 +28,7 @@ use Rattle.archive_btree_spelling.proofs.Parting.{EachIs, EachListIs, IsParted, 
 use Rattle.archive_btree_spelling.proofs.Planned.{PartedPlan}
 use Rattle.cabinet_text_grammar.specs.Tree.{Tree}
 use Rattle.cabinet_documents.specs.Node.{KnowsNode, node_shape, node_names}
-use Rattle.cabinet_documents.specs.declared.spelling.resolver.NodeResolver.{NodeResolver}
+use Rattle.cabinet_documents.specs.Resolver.{Resolver}
 use Rattle.cabinet_documents.specs.Spelling.{pair_spelling, ordered_spelling}
 use Rattle.cabinet_documents.proofs.Values.{entry_value}
 use Rattle.cabinet_documents.proofs.Plans.{EntriesPlan, MapPlan, is_empty, is_rooted}
@@ -40,7 +40,7 @@ use Rattle.cabinet_documents.proofs.StoredPairs.{Entry, TellsEntry}
 use Rattle.cabinet_documents.proofs.StoredEntries.{entries_read, entries_lie, packed, TreeTells, TellsBelow, ChildrenPlanned, EntriesPlanned, children_read, children_lie}
 
 module _ (g : Sharing) where
-  module _ (w : Spelling Tree NodeResolver) where
+  module _ (w : Spelling Tree Resolver) where
     abbrev Below : Type 1
     Below = Spelling (List Entry) (Option ℕ)
 

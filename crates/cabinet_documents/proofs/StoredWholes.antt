@@ -24,7 +24,7 @@ use Rattle.cabinet_text_grammar.specs.Wholes.{has, number_in, numbered, IsTable}
 use Rattle.cabinet_text_grammar.proofs.Tables.{numbered_back, some_same}
 use Rattle.cabinet_documents.specs.Node.{node_shape}
 use Rattle.cabinet_documents.specs.SharedKeys.{key_of_text, key_of_whole}
-use Rattle.cabinet_documents.specs.declared.spelling.resolver.NodeResolver.{NodeResolver}
+use Rattle.cabinet_documents.specs.Resolver.{Resolver}
 use Rattle.cabinet_documents.specs.Spelling.{boxed_spelling, whole_spelling}
 use Rattle.cabinet_documents.proofs.KeysApart.{keys_apart}
 use Rattle.cabinet_documents.proofs.Values.{keys_of, texts_stand, wholes_stand, shared_node, value_of}
@@ -70,7 +70,7 @@ module _ (wholes : List Tree) (is : IsTable wholes) where
 
 -- ---- one whole
 
-module _ (fit : Fit) (wholes : List Tree) (is : IsTable wholes) (w : Spelling Tree NodeResolver) (d : ℕ) (u : Tree) (less : depth u < d) (known : IsTrue (has wholes u)) (tell : Tells (shares wholes is (depth u)) fit w u)
+module _ (fit : Fit) (wholes : List Tree) (is : IsTable wholes) (w : Spelling Tree Resolver) (d : ℕ) (u : Tree) (less : depth u < d) (known : IsTrue (has wholes u)) (tell : Tells (shares wholes is (depth u)) fit w u)
     (v : Value) (p : Plan) (same : erased v ≡ value_of u) (planned : Planned fit node_shape v p)
     (s : State) (seen : List Shared) (alike : Alike (shares wholes is d) seen s.met) (begun : Begun (shares wholes is d) s.begun) (own : ℕ) where
   outside : Sharing

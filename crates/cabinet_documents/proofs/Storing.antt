@@ -22,7 +22,7 @@ use Rattle.archive_forms_laws.specs.Views.{listed}
 use Rattle.archive_forms_laws.proofs.Regions.{state_after_all_pos}
 use Rattle.cabinet_text_grammar.specs.Tree.{Tree}
 use Rattle.cabinet_documents.specs.Node.{node_shape, KnowsNode}
-use Rattle.cabinet_documents.specs.declared.spelling.resolver.NodeResolver.{NodeResolver}
+use Rattle.cabinet_documents.specs.Resolver.{Resolver}
 use Rattle.cabinet_documents.specs.Spelling.{boxed_shape, boxed_spelling, maybe_spelling, list_spelling, node_of}
 use Rattle.cabinet_documents.proofs.Values.{value_of}
 use Rattle.cabinet_documents.proofs.Plans.{TextPlan, is_inline, is_far, box_plan, slice_plan, one_plan, length-values, Planned, ArePlanned, first_planned, none_are_planned}
@@ -77,7 +77,7 @@ one_more_lies at p ps own st between b here there h k = (here ++ there, b, lie_m
 module _ (g : Sharing) where
   -- ---- a node, by what its payload stores
 
-  module _ {A R : Type 0} (tag : ℕ) (shape : Shape) (w : Spelling A R) (make : R → NodeResolver) (get : NodeResolver → R) (x : A) (t : Tree) where
+  module _ {A R : Type 0} (tag : ℕ) (shape : Shape) (w : Spelling A R) (make : R → Resolver) (get : Resolver → R) (x : A) (t : Tree) where
     -- the payload is laid out at its offset
     pub node_reads : (s : State) (own : ℕ) (here fs : List Field) (b : limits.State) → get (make (w.resolver x s)) ≡ w.resolver x s
         → Reads g w x s (own + align_up 1 (align_of shape)) here b → fs ≡ here ++ [] → Reads g (node_of tag shape w make get x) t s own fs b
@@ -294,7 +294,7 @@ module _ (g : Sharing) where
 
   -- ---- nodes
 
-  module _ (fit : Fit) (w : Spelling Tree NodeResolver) where
+  module _ (fit : Fit) (w : Spelling Tree Resolver) where
     abbrev pub ReadsNode : Tree → Type 0
     ReadsNode t = ReadsValue fit node_shape value_of w t
 

@@ -30,7 +30,7 @@ use Rattle.cabinet_documents.specs.Denotes.{tagged_value, pair_value, Denotes, D
 use Rattle.cabinet_documents.specs.Denotes.Denotes.{denotes_truth, denotes_number, denotes_text, denotes_shared, denotes_nothing, denotes_some, denotes_list, denotes_ordered, denotes_hashed, denotes_kept, denotes_whole}
 use Rattle.cabinet_documents.specs.Denotes.DenoteAll.{denote_none, denote_more}
 use Rattle.cabinet_documents.specs.Denotes.DenotePairs.{denote_no_pairs, denote_pair}
-use Rattle.cabinet_documents.specs.declared.spelling.resolver.NodeResolver.{NodeResolver}
+use Rattle.cabinet_documents.specs.Resolver.{Resolver}
 use Rattle.cabinet_documents.specs.Fitted.{IsFitted, AreFitted, ArePairsFitted}
 use Rattle.cabinet_documents.specs.Order.{arranged}
 use Rattle.cabinet_documents.specs.Spelling.{trees_in, pairs_in, pair_spelling, refused, node_level, node_spelling, node_value}
@@ -99,19 +99,19 @@ wholes_stand table t there =
 
 -- ---- a spelling gives a document this value, and its tables are by first fit, and shared values under their keys
 
-pub record Agrees (table : List Tree) (w : Spelling Tree NodeResolver) (t : Tree) : Type 0 where
+pub record Agrees (table : List Tree) (w : Spelling Tree Resolver) (t : Tree) : Type 0 where
   pub plain : w.plain t ≡ value_of t
   pub suits : IsLegal t → IsNumbered table t → w.suits (first_fit text_hash) (keys_of table) t
 
-record AllAgree (table : List Tree) (w : Spelling Tree NodeResolver) (ts : Trees) : Type 0 where
+record AllAgree (table : List Tree) (w : Spelling Tree Resolver) (ts : Trees) : Type 0 where
   plain : plain_values w (trees_in ts) ≡ values_of ts
   suits : AreLegal ts → AreNumbered table ts → all_suit w (first_fit text_hash) (keys_of table) (trees_in ts)
 
-record PairsAgree (table : List Tree) (w : Spelling Tree NodeResolver) (ps : Pairs) : Type 0 where
+record PairsAgree (table : List Tree) (w : Spelling Tree Resolver) (ps : Pairs) : Type 0 where
   plain : plain_values (pair_spelling w) (pairs_in ps) ≡ values_of_pairs ps
   suits : (kind : MapKind) (before : List (List ℕ)) → ArePairs kind before ps → ArePairsNumbered table ps → all_suit (pair_spelling w) (first_fit text_hash) (keys_of table) (pairs_in ps)
 
-module _ (table : List Tree) (is : IsTable table) (w : Spelling Tree NodeResolver) where
+module _ (table : List Tree) (is : IsTable table) (w : Spelling Tree Resolver) where
   all_agree : (n : ℕ) → ((y : Tree) → depth y ≤ n → Agrees table w y) → (ts : Trees) → most_depth ts ≤ n → AllAgree table w ts
   all_agree n each no_trees less = record { plain = refl; suits = λ legal known. tt }
   all_agree n each (more_trees t ts) less =

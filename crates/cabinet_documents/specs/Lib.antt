@@ -8,6 +8,7 @@ pub mod Laws
 pub mod Node
 pub mod Order
 pub mod OwnBytes
+pub mod Resolver
 pub mod SharedKeys
 pub mod Spelling
 pub mod SpellingLaws

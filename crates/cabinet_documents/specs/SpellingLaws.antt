@@ -19,7 +19,7 @@ use Rattle.cabinet_documents.specs.Denotes.{Denotes}
 use Rattle.cabinet_documents.specs.Fitted.{IsFitted}
 use Rattle.cabinet_documents.specs.Image.{Image}
 use Rattle.cabinet_documents.specs.Laws.{bytes_five}
-use Rattle.cabinet_documents.specs.declared.spelling.resolver.NodeResolver.{NodeResolver}
+use Rattle.cabinet_documents.specs.Resolver.{Resolver}
 use Rattle.cabinet_documents.specs.Spelling.{node_level, node_spelling, node_value}
 
 abbrev pub NodeSpells : Type 0
@@ -56,7 +56,7 @@ RefusedIsPast =
 -- `node_spelling`
 abbrev pub OneLevelIsWritten : Type 0 → Type 0
 OneLevelIsWritten W =
-    (table : List Tree) (m : WriterMembers W) (t : Tree) (old new : W) (result : Result NodeResolver Error)
+    (table : List Tree) (m : WriterMembers W) (t : Tree) (old new : W) (result : Result Resolver Error)
     → Serializes (node_level table (node_spelling table)) m t old new result
     → Serializes (node_spelling table) m t old new result
 

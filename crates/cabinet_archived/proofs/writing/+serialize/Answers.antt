@@ -19,8 +19,8 @@ use Rattle.cabinet_documents.specs.Spelling.{node_spelling}
 use Rattle.cabinet_text_nodes.specs.View.{node_tree, table_of}
 use Rattle.cabinet_archived.specs.Archived.{archived_as, table_in, tree_numbered}
 use Rattle.cabinet_archived.specs.declared.node_in.NodeIn.{NodeIn}
-use Rattle.cabinet_archived.proofs.Wholes.{some_numbered, some_written, some_stopped, maybe_numbered, list_numbered, ordered_numbered, hashed_numbered, kept_numbered, maybe_deep, list_deep, ordered_deep, hashed_deep, kept_deep, whole_within, whole_deep, number_is, entry_is, entry_numbered, box_written, no_padding, wrote_none}
-use Rattle.cabinet_archived.proofs.Written.{depth_within, list_written, list_stopped, pairs_written, table_written, element_below, pair_below, element_numbered, pair_numbered, only_element, text_wrote, shared_wrote, shared_refused, maybe_wrote, maybe_refused, list_wrote, list_refused, ordered_wrote, ordered_refused, hashed_wrote, hashed_refused, index_written, kept_wrote, kept_refused, whole_wrote, whole_refused}
+use Rattle.cabinet_archived.proofs.Wholes.{some_numbered, some_written, some_stopped, maybe_numbered, list_numbered, ordered_numbered, hashed_numbered, kept_numbered, maybe_deep, list_deep, ordered_deep, hashed_deep, kept_deep, whole_within, whole_deep, number_is, entry_is, entry_numbered, no_padding, wrote_none}
+use Rattle.cabinet_archived.proofs.Written.{depth_within, box_written, list_written, list_stopped, pairs_written, table_written, element_below, pair_below, element_numbered, pair_numbered, only_element, text_wrote, shared_wrote, shared_refused, maybe_wrote, maybe_refused, list_wrote, list_refused, ordered_wrote, ordered_refused, hashed_wrote, hashed_refused, index_written, kept_wrote, kept_refused, whole_wrote, whole_refused}
 use Rattle.cabinet_archived.proofs.writing.+serialize.Goals as goal
 
 pub serialize_list-serialize_slice_with_each-returns-in_err-resolver : goal.serialize_list-serialize_slice_with_each-returns-in_err-resolver
@@ -324,7 +324,7 @@ serialize_whole-returns-in_err-pos g t c = λ st at.
     let mid1 = c.serialize_one_each.new.serializer in
     let is : c.from_residual-in_err-pos.result ≡ Err c.in_err-pos.field-0.0 = search rules in
     rw is (stopped_in_data q (λ y. 1) k w m x old mid u st at starts mid1 c.in_err-pos.field-0.0
-    (box_written wholes m (node_tree wholes c.index-wholes-number.result) x mid mid1 (Err c.in_err-pos.field-0.0) there c.in_err-pos.ensures (with_begun k st) (at_then q (λ y. 1) k w m x old mid u st at starts)))
+    (box_written wholes m c.index-wholes-number.result x mid mid1 (Err c.in_err-pos.field-0.0) there c.in_err-pos.ensures (with_begun k st) (at_then q (λ y. 1) k w m x old mid u st at starts)))
 
 pub serialize_whole-returns : goal.serialize_whole-returns
 serialize_whole-returns g t c = λ st at.
@@ -343,7 +343,7 @@ serialize_whole-returns g t c = λ st at.
     let mid1 = c.serialize_one_each.new.serializer in
     let new = c.finish_whole.new.self in
     let pos = c.in_ok-pos.pos in
-    let done = box_written wholes m (node_tree wholes c.index-wholes-number.result) x mid mid1 (Ok pos) there c.in_ok-pos.ensures (with_begun k st) (at_then q (λ y. 1) k w m x old mid u st at starts) in
+    let done = box_written wholes m c.index-wholes-number.result x mid mid1 (Ok pos) there c.in_ok-pos.ensures (with_begun k st) (at_then q (λ y. 1) k w m x old mid u st at starts) in
     let pad = ap₂ (λ a b. zeros (shared_padding a b)) done.1.0 done.1.2.stands ∙ no_padding wholes x (with_begun k st) done.1.1 in
     let all = filled q (λ y. 1) k w m x old mid u st at starts mid1 pos done.0 done.1.0 done.1.2 mid1 (wrote_none m mid1 _ pad) in
     let v : Untouched q (λ y. 1) k w m x mid1 new = record { contents = c.finish_whole.ensures.contents; pos = c.finish_whole.ensures.pos; failures = c.finish_whole.ensures.failures } in
@@ -367,7 +367,7 @@ serialize_whole-returns-in_err-finish_whole g t c = λ st at.
     let mid1 = c.serialize_one_each.new.serializer in
     let new = c.finish_whole.new.self in
     let pos = c.in_ok-pos.pos in
-    let done = box_written wholes m (node_tree wholes c.index-wholes-number.result) x mid mid1 (Ok pos) there c.in_ok-pos.ensures (with_begun k st) (at_then q (λ y. 1) k w m x old mid u st at starts) in
+    let done = box_written wholes m c.index-wholes-number.result x mid mid1 (Ok pos) there c.in_ok-pos.ensures (with_begun k st) (at_then q (λ y. 1) k w m x old mid u st at starts) in
     let pad = ap₂ (λ a b. zeros (shared_padding a b)) done.1.0 done.1.2.stands ∙ no_padding wholes x (with_begun k st) done.1.1 in
     let all = filled q (λ y. 1) k w m x old mid u st at starts mid1 pos done.0 done.1.0 done.1.2 mid1 (wrote_none m mid1 _ pad) in
     let v : Untouched q (λ y. 1) k w m x mid1 new = record { contents = c.finish_whole.ensures.contents; pos = c.finish_whole.ensures.pos; failures = c.finish_whole.ensures.failures } in
