@@ -1,4 +1,5 @@
 mod Answering
+mod InOrder
 pub mod Keyed
 pub mod Listed
 mod ReadBack

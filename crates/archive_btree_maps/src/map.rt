@@ -18,7 +18,10 @@ pub use crate::walking::{
 /// The error of a leaf that says more entries than fit in a node.
 pub use archive_shape::Error::NodeLength as InvalidLength;
 pub use comparing::eq_map;
-pub use laws::{equal_maps_are_hashed_alike, found_is_present, map_equalities_are_equivalences};
+pub use laws::{
+    equal_maps_are_hashed_alike, found_is_present, map_equalities_are_equivalences,
+    maps_are_equal_by_entries, maps_are_hashed_by_entries,
+};
 pub use map::ArchivedBTreeMap;
 pub use resolving::BTreeMapResolver;
 pub use std_map::{eq_btree_map, eq_btree_map_with};

@@ -10,6 +10,8 @@ mod comparing;
 #[cfg(test)]
 mod composed;
 #[cfg(test)]
+mod keys;
+#[cfg(test)]
 mod printing;
 #[cfg(test)]
 mod ranges;

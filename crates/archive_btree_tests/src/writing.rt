@@ -17,7 +17,7 @@ use std::collections::{BTreeMap, BTreeSet};
 use std::marker::PhantomData;
 
 /// A serializer into memory that grows.
-type Memory = Serializer<Vec<u8>, Global, ()>;
+pub(crate) type Memory = Serializer<Vec<u8>, Global, ()>;
 
 /// Returns a serializer into memory that is empty.
 fn memory(alloc: Global) -> Memory

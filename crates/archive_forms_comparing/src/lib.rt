@@ -16,6 +16,7 @@ mod boxed_str;
 pub mod entry;
 mod eq;
 mod fields;
+pub mod laws;
 mod leaf;
 mod native;
 mod option;

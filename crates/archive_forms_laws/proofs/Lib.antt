@@ -15,7 +15,6 @@ pub mod Named
 pub mod Once
 pub mod Options
 pub mod OrderingResults
-pub mod OwnBytes
 pub mod Payloads
 pub mod Pointers
 pub mod Progress

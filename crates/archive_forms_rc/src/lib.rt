@@ -14,6 +14,8 @@ mod comparing;
 mod debug;
 mod flavor;
 mod hashing;
+mod key;
+pub mod laws;
 mod parts;
 mod resolving;
 mod shared;

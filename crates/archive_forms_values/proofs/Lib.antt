@@ -10,6 +10,7 @@ pub mod Held
 pub mod InOrder
 pub mod Inside
 pub mod Joined
+pub mod Keys
 pub mod Led
 pub mod Lengths
 pub mod Lent

@@ -4,6 +4,7 @@ pub mod Calls
 pub mod Claims
 pub mod Entries
 pub mod Fields
+pub mod Keys
 pub mod Loans
 pub mod Parts
 pub mod Repr

@@ -5,6 +5,7 @@
 
 mod boxed_slice;
 mod boxed_str;
+mod key;
 mod resolving;
 
 pub use boxed_slice::{ArchivedBoxedSlice, check_boxed_slice_each};

@@ -27,8 +27,8 @@ pub use reading::{
     target_of,
 };
 pub use text::{
-    ArchivedString, ArchivedStringRepr, StringResolver, check_behind, held_is_text, one_text,
-    out_of_line_capacity,
+    ArchivedString, ArchivedStringRepr, StringResolver, TextQuery, check_behind, held_is_text,
+    one_text, out_of_line_capacity,
 };
 pub use tuples::{ArchivedTuple1, ArchivedTuple2, ArchivedTuple3, ArchivedTuple4, Entry};
 pub use words::{read_target, read_word};

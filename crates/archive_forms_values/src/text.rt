@@ -5,6 +5,7 @@
 mod check;
 mod key;
 mod laws;
+mod query;
 mod repr;
 mod resolving;
 mod string;
@@ -12,6 +13,7 @@ mod string;
 pub use archive_forms_laws::{held_is_text, one_text};
 pub use check::check_behind;
 pub use laws::out_of_line_capacity;
+pub use query::TextQuery;
 pub use repr::ArchivedStringRepr;
 pub use resolving::StringResolver;
 pub use string::ArchivedString;

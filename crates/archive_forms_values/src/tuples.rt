@@ -1,6 +1,7 @@
 //! Archived tuples of one to four fields, and entries.
 
 mod entry;
+mod key;
 mod tuple1;
 mod tuple2;
 mod tuple3;

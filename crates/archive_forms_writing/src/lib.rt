@@ -11,7 +11,6 @@ mod elements;
 mod fields;
 mod key;
 mod leaf;
-mod native;
 mod option;
 mod placing;
 mod pointer_sized;
@@ -35,7 +34,6 @@ pub use elements::{
 pub use fields::resolve_field;
 pub use key::KeyOf;
 pub use leaf::Leaf;
-pub use native::NativeLeaf;
 pub use option::serialize_option_each;
 pub use placing::{align, pad, resolve_aligned};
 pub use result::serialize_result_each;

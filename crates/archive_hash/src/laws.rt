@@ -16,7 +16,7 @@ use std::hash::{Hash, Hasher};
 
 /// The archive of a map has the entries that it was written of: they are its items, in some order, and a look-up of a
 /// key returns the first entry with the key, and nothing if there is none. Each key can be passed to `index`.
-pub fn written_map_answers<Q: Hash, K: Archive + Hash, V: Archive>()
+pub fn written_map_answers<Q: Hash, K: Archive + Ord + Hash, V: Archive>()
 where
     K::Archived: HashedKeyOf<K, Q>,
     ensures { WrittenMapAnswers K.Archived.HashedKey K.Archived.key V.Archived.Portable K.spelling V.spelling K.Hash Q.Hash

@@ -16,7 +16,7 @@ mod raw_cursor;
 pub use buckets::{BucketsAt, buckets_at, number_at};
 pub use cursors::{IterMut, ValuesMut};
 pub use equal::{has_equal, search_equal};
-pub use hashed::HashedKey;
+pub use hashed::{HashedKey, HashedLeaf};
 pub use iter::{FullPlaces, RawIter, full_places_at, raw_iter_at};
 pub use keyed::{search_key, search_with, value_position};
 pub use laws::{items_descend, keys_stay, one_hash, one_table, table_is_read, table_stays};

@@ -1,11 +1,14 @@
 //! Tests of archived index maps and sets: their entries in order, look-ups, writes through seals, comparing and printing.
+ghost use Rattle.std.specs.Prelude.{[]};
+
 use crate::maps::prints;
 use crate::reading::root_of;
+use archive_core_validation::HighValidator;
 use archive_forms_comparing::{ArchivedEq, ArchivedHash};
 use archive_forms_values::ArchivedString;
 use archive_hash_probing::FxHasher64;
 use archive_index::{ArchivedIndexMap, ArchivedIndexSet};
-use archive_shape::{ArchivedU32, Seal};
+use archive_shape::{ArchivedU32, CheckBytes, Seal};
 use std::alloc::Global;
 use std::hash::Hasher;
 
@@ -109,12 +112,18 @@ fn values_are_written_over(rt: HostRuntime) {
     );
 }
 
-/// Returns whether two archives of maps are equal.
-fn equal_to(alloc: Global, bytes: &[u8], others: &[u8]) -> Option<bool> {
-    let Ok(this) = root_of::<Numbers>(alloc, bytes) else {
+/// Returns whether two archives are equal.
+fn equal_to<T: ArchivedEq + CheckBytes<HighValidator>>(
+    alloc: Global,
+    bytes: &[u8],
+    others: &[u8],
+) -> Option<bool>
+    requires { T.knows [] }
+{
+    let Ok(this) = root_of::<T>(alloc, bytes) else {
         return None;
     };
-    match root_of::<Numbers>(alloc, others) {
+    match root_of::<T>(alloc, others) {
         Ok(other) => Some(ArchivedEq::eq(&this, &other)),
         Err(_) => None,
     }
@@ -134,13 +143,26 @@ fn hashed(alloc: Global, bytes: &[u8]) -> Option<u64> {
 fn maps_of_equal_entries_in_the_same_order_are_equal_and_hash_alike(rt: HostRuntime) {
     let alloc = rt.alloc();
     assert!(rt;
-        equal_to(alloc, &TWO, &TWO) == Some(true)
-            && equal_to(alloc, &TWO, &EXCHANGED) == Some(false)
-            && equal_to(alloc, &TWO, &NOTHING) == Some(false)
-            && equal_to(alloc, &NOTHING, &NOTHING) == Some(true)
+        equal_to::<Numbers>(alloc, &TWO, &TWO) == Some(true)
+            && equal_to::<Numbers>(alloc, &TWO, &EXCHANGED) == Some(false)
+            && equal_to::<Numbers>(alloc, &TWO, &NOTHING) == Some(false)
+            && equal_to::<Numbers>(alloc, &NOTHING, &NOTHING) == Some(true)
     );
     let hash = hashed(alloc, &TWO);
     assert!(rt; hash.is_some() && hashed(alloc, &TWO) == hash && hashed(alloc, &EXCHANGED) != hash);
+}
+
+#[test]
+fn sets_of_equal_keys_in_the_same_order_are_equal(rt: HostRuntime) {
+    let alloc = rt.alloc();
+    let mut other = TWO_KEYS;
+    other[44] = b'y';
+    assert!(rt;
+        equal_to::<Keys>(alloc, &TWO_KEYS, &TWO_KEYS) == Some(true)
+            && equal_to::<Keys>(alloc, &TWO_KEYS, &other) == Some(false)
+            && equal_to::<Keys>(alloc, &TWO_KEYS, &NOTHING) == Some(false)
+            && equal_to::<Keys>(alloc, &NOTHING, &NOTHING) == Some(true)
+    );
 }
 
 #[test]

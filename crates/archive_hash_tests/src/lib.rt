@@ -14,6 +14,8 @@ mod index_writing;
 #[cfg(test)]
 mod indexing;
 #[cfg(test)]
+mod keys;
+#[cfg(test)]
 mod maps;
 #[cfg(test)]
 mod placing;

@@ -1,10 +1,13 @@
 //! Laws of index maps that are written and read back. Each function below has no body: its contract is the law.
+ghost use Rattle.std.specs.Prelude.{◌≡◌};
 ghost use Rattle.archive_forms.specs.Faithful.{IsFaithful};
+ghost use Rattle.archive_forms_laws.specs.Orders.{no_fields_equality, no_fields_hashed, more_fields_equality, more_fields_hashed, tuple_equality, tuple_hashed, unit_equality, vector_equality, vector_hashed};
 ghost use Rattle.archive_index.specs.Calls.Laws.{WrittenMapAnswers, MapsAreFaithful, SetsAreFaithful};
 
 use crate::map::ArchivedIndexMap;
 use crate::set::ArchivedIndexSet;
 use archive_forms::ReadBack;
+use archive_forms_comparing::{ArchivedEq, ArchivedHash};
 use archive_forms_writing::Archive;
 use archive_hash::HashedKeyOf;
 use archive_hash_probing::FxHasher64;
@@ -12,7 +15,7 @@ use std::hash::{Hash, Hasher};
 
 /// States that the archive of an index map has the entries that it was written of, in their order, and that a look-up of
 /// a key finds the number of the first entry with the key, and nothing if there is none.
-pub fn written_map_answers<Q: Hash, K: Archive + Hash, V: Archive>()
+pub fn written_map_answers<Q: Hash, K: Archive + Ord + Hash, V: Archive>()
 where
     K::Archived: HashedKeyOf<K, Q>,
     ensures { WrittenMapAnswers K.Archived.HashedKey K.Archived.key V.Archived.Portable K.spelling V.spelling K.Hash Q.Hash
@@ -29,4 +32,19 @@ pub fn index_maps_are_faithful<K: Archive + Hash, V: Archive, A: ReadBack<K>, B:
         ⟦<ArchivedIndexMap<A, B, FxHasher64> as ReadBack<Vec<(K, V)>>>⟧ }
     ensures sets { SetsAreFaithful K.Hash K.Archived.shape K.spelling
         ⟦<ArchivedIndexSet<A, FxHasher64> as ReadBack<Vec<K>>>⟧ }
+{}
+
+/// States that index maps and sets are equal where they have the same number of entries and these are equal one by one,
+/// in order, by their keys and their values, and those of sets by their keys.
+pub fn index_maps_are_equal_in_order<K: ArchivedEq, V: ArchivedEq, H>()
+    ensures maps { ⟦<ArchivedIndexMap<K, V, H> as ArchivedEq>⟧.equal
+        ≡ vector_equality (tuple_equality (more_fields_equality K.equal (more_fields_equality V.equal no_fields_equality))) }
+    ensures sets { ⟦<ArchivedIndexSet<K, H> as ArchivedEq>⟧.equal
+        ≡ vector_equality (tuple_equality (more_fields_equality K.equal (more_fields_equality unit_equality no_fields_equality))) }
+{}
+
+/// States that what is hashed of an index map is the number of its entries and then each of them, in order.
+pub fn index_maps_are_hashed_in_order<K: ArchivedHash, V: ArchivedHash, H>()
+    ensures { ⟦<ArchivedIndexMap<K, V, H> as ArchivedHash>⟧.hashed
+        ≡ vector_hashed (tuple_hashed (more_fields_hashed K.hashed (more_fields_hashed V.hashed no_fields_hashed))) }
 {}

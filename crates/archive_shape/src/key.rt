@@ -1,17 +1,19 @@
 //! The trait of archived keys, which are compared with queries.
-ghost use Rattle.std.specs.Prelude.{◌≡◌, ℕ, ◌+◌, ◌≤◌, List, length};
-ghost use Rattle.std.proofs.Common.{ap, arith, sym, ◌∙◌};
+ghost use Rattle.std.specs.Prelude.{◌≡◌, ℕ, ◌+◌, ◌≤◌, List, length, refl, ⊤};
+ghost use Rattle.std.proofs.Common.{ap, sym, ◌∙◌};
 ghost use Rattle.std.specs.Cmp.{IsTotalOrder};
 ghost use Rattle.std.specs.Ordering.{is_eq};
 ghost use Rattle.std.specs.declared.cmp.Ordering.{Ordering};
+ghost use Rattle.std.specs.declared.cmp.Ordering.TheVariants.{Equal};
 ghost use Rattle.archive_shape_layout.specs.Bytes.{window};
+ghost use Rattle.archive_shape_layout.specs.Shape.{size_of};
 ghost use Rattle.archive_shape_layout.specs.Value.{Value};
 ghost use Rattle.archive_shape_layout.specs.Numbers.{Reads};
 ghost use Rattle.archive_shape_layout.proofs.HeldNumbers.{held_reads, held_legal};
 ghost use Rattle.archive_shape_layout.proofs.NumberReading.{one_reading};
 ghost use Rattle.archive_shape.specs.Key.{HeldAt};
 
-use crate::{LittleEndian, Native, Portable, Ref};
+use crate::{ArchivedLeaf, Portable, Ref};
 use std::cmp::Ordering;
 
 /// A type of archived keys that are compared with queries of type `Q`. The result of a comparison depends on the value
@@ -54,13 +56,13 @@ pub trait ArchivedKey<Q>: Portable {
     ghost is_total: { IsTotalOrder order };
 }
 
-/// Numbers and chars, in the order of their native type.
-impl<N: Native + Ord> ArchivedKey<N> for LittleEndian<N> {
-    ghost is_key = { λ bytes pos. (pos + N.WIDTH ≤ length bytes) × N.is_legal (window bytes pos N.WIDTH) };
+/// Numbers, truth values and chars, in the order of their native type.
+impl<N: Copy + Ord, A: ArchivedLeaf<Native = N>> ArchivedKey<N> for A {
+    ghost is_key = { λ bytes pos. (pos + size_of A.shape ≤ length bytes) × A.is_legal (window bytes pos (size_of A.shape)) };
 
-    ghost key_of = { λ bytes pos key. (N.bytes_of key ≡ window bytes pos N.WIDTH) × Reads N.shape (window bytes pos N.WIDTH) (N.value_of key) };
+    ghost key_of = { λ bytes pos key. Reads A.shape (window bytes pos (size_of A.shape)) (A.value_of key) };
 
-    ghost stands_for = { λ value key. value ≡ N.value_of key };
+    ghost stands_for = { λ value key. value ≡ A.value_of key };
 
     ghost order = { N.cmp };
 
@@ -72,13 +74,42 @@ impl<N: Native + Ord> ArchivedKey<N> for LittleEndian<N> {
         this.to_native().cmp(query)
     }
 
-    ghost held_is_key = { λ bytes pos value h. (Prim.omega (arith, N.sized, h.own_within), (N.legal_by_shape (window bytes pos N.WIDTH)).1 (held_legal N.shape N.is_leaf N.WIDTH N.sized h.holds)) };
+    ghost held_is_key = { λ bytes pos value h. (h.own_within, (A.legal_by_shape (window bytes pos (size_of A.shape))).1 (held_legal A.shape A.is_leaf (size_of A.shape) refl h.holds)) };
 
-    ghost held_stands_for = { λ bytes pos value h key is. one_reading N.shape (window bytes pos N.WIDTH) _ _ (held_reads N.shape N.is_leaf N.WIDTH N.sized h.holds) is.1 };
+    ghost held_stands_for = { λ bytes pos value h key is. one_reading A.shape (window bytes pos (size_of A.shape)) _ _ (held_reads A.shape A.is_leaf (size_of A.shape) refl h.holds) is };
 
-    ghost one_value = { λ value a b x y query. ap (λ key. N.cmp key query) (N.one_number a b (sym x ∙ y)) };
+    ghost one_value = { λ value a b x y query. ap (λ key. N.cmp key query) (A.one_native a b (sym x ∙ y)) };
 
-    ghost one_key = { λ bytes pos a b x y query. ap (λ key. N.cmp key query) (N.one_number a b (one_reading N.shape (window bytes pos N.WIDTH) _ _ x.1 y.1)) };
+    ghost one_key = { λ bytes pos a b x y query. ap (λ key. N.cmp key query) (A.one_native a b (one_reading A.shape (window bytes pos (size_of A.shape)) _ _ x y)) };
 
     ghost is_total = { N.total };
+}
+
+/// The unit, whose values have no bytes and are all equal.
+impl ArchivedKey<()> for () {
+    ghost is_key = { λ _ _. ⊤ };
+
+    ghost key_of = { λ _ _ _. ⊤ };
+
+    ghost stands_for = { λ _ _. ⊤ };
+
+    ghost order = { λ _ _. Equal };
+
+    fn same(_this: &Ref<'_, Self>, _query: &()) -> bool {
+        true
+    }
+
+    fn compare(_this: &Ref<'_, Self>, _query: &()) -> Ordering {
+        Ordering::Equal
+    }
+
+    ghost held_is_key = { λ _ _ _ _. tt };
+
+    ghost held_stands_for = { λ _ _ _ _ _ _. tt };
+
+    ghost one_value = { λ _ _ _ _ _ _. refl };
+
+    ghost one_key = { λ _ _ _ _ _ _ _. refl };
+
+    ghost is_total = { record { antisymm = λ _ _. refl; trans = λ _ _ _ e _. e; congr = λ _ _ _ _. refl } };
 }

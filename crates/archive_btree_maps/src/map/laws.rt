@@ -1,12 +1,13 @@
 //! The laws of maps: of look-ups, equality and hashes. Each function has no body: its contract is the law.
-ghost use Rattle.std.specs.Prelude.{Some};
+ghost use Rattle.std.specs.Prelude.{◌≡◌, Some};
 ghost use Rattle.archive_btree_maps.specs.Lookups.{HasKey};
 ghost use Rattle.archive_btree_maps.specs.Maps.{HasMap};
-ghost use Rattle.archive_btree_maps.specs.MapComparing.{MapsAreEquivalences};
-ghost use Rattle.archive_btree_maps.specs.Hashing.{MapsAreHashedAlike};
+ghost use Rattle.archive_btree_maps.specs.MapComparing.{MapsAreEquivalences, map_equality};
+ghost use Rattle.archive_btree_maps.specs.Hashing.{MapsAreHashedAlike, map_hashed};
 ghost use Rattle.archive_btree_maps.specs.Calls.Lookups.{LooksUpValue};
 
 use crate::map::ArchivedBTreeMap;
+use archive_forms_comparing::{ArchivedEq, ArchivedHash};
 use archive_shape::{ArchivedKey, Portable, Ref};
 
 /// States that a map has a key that a look-up has found: it can be passed to `index`.
@@ -28,4 +29,14 @@ pub fn map_equalities_are_equivalences()
 /// States that equal maps are hashed alike where the keys and the values are.
 pub fn equal_maps_are_hashed_alike()
     ensures { MapsAreHashedAlike }
+{}
+
+/// States that maps are equal by their entries in order.
+pub fn maps_are_equal_by_entries<K: ArchivedEq, V: ArchivedEq, const E: usize>()
+    ensures { ⟦<ArchivedBTreeMap<K, V, E> as ArchivedEq>⟧.equal ≡ map_equality K.equal V.equal }
+{}
+
+/// States that what is hashed of a map is its entries in order.
+pub fn maps_are_hashed_by_entries<K: ArchivedHash, V: ArchivedHash, const E: usize>()
+    ensures { ⟦<ArchivedBTreeMap<K, V, E> as ArchivedHash>⟧.hashed ≡ map_hashed K.hashed V.hashed }
 {}

@@ -1,8 +1,10 @@
 //! The laws of sets: functions without a body, whose contracts are the laws.
-ghost use Rattle.std.specs.Prelude.{ℕ, List};
+ghost use Rattle.std.specs.Prelude.{◌≡◌, ℕ, List};
 ghost use Rattle.archive_btree_maps.specs.Keys.{SetIsRead};
-ghost use Rattle.archive_btree_maps.specs.SetComparing.{SetsAreEquivalences, SetsAreHashedAlike};
+ghost use Rattle.archive_btree_maps.specs.SetComparing.{SetsAreEquivalences, SetsAreHashedAlike, set_equality, set_hashed};
 
+use crate::set::ArchivedBTreeSet;
+use archive_forms_comparing::{ArchivedEq, ArchivedHash};
 use archive_shape::Portable;
 
 /// States that where the layout has a set, its bytes have a search tree, at whose items the keys of the set's value
@@ -19,4 +21,14 @@ pub fn set_equalities_are_equivalences()
 /// States that equal sets are hashed alike where the keys are.
 pub fn equal_sets_are_hashed_alike()
     ensures { SetsAreHashedAlike }
+{}
+
+/// States that sets are equal by their keys in order.
+pub fn sets_are_equal_by_keys<K: ArchivedEq, const E: usize>()
+    ensures { ⟦<ArchivedBTreeSet<K, E> as ArchivedEq>⟧.equal ≡ set_equality K.equal }
+{}
+
+/// States that what is hashed of a set is its keys in order.
+pub fn sets_are_hashed_by_keys<K: ArchivedHash, const E: usize>()
+    ensures { ⟦<ArchivedBTreeSet<K, E> as ArchivedHash>⟧.hashed ≡ set_hashed K.hashed }
 {}
