@@ -150,6 +150,67 @@ fn calls_that_values_are_lent_to_write_each_value(rt: HostRuntime) {
     assert!(rt; fills(rt.alloc(), &[(44, 3), (48, 2), (52, 1), (56, 0)]));
 }
 
+/// Fills the value that a cursor lends first with a byte. Returns its position, and the number of entries that are left after
+/// it.
+fn fill_first<K: Portable, V: Portable, const E: usize>(
+    map: Seal<'_, ArchivedBTreeMap<K, V, E>>,
+    byte: u8,
+) -> Option<(usize, usize)>
+    requires { HasValue (tree E K.shape V.shape) (both K.knows V.knows) map.bytes.now map.pos }
+{
+    let mut entries = ArchivedBTreeMap::iter_seal(map);
+    let at = match entries.next() {
+        Some((_key, value)) => {
+            value.own.fill(byte);
+            value.pos()
+        }
+        None => return None,
+    };
+    Some((at, entries.len()))
+}
+
+/// Fills the value that a cursor over the values lends first with a byte. Returns its position, and the number of values
+/// that are left after it.
+fn fill_first_value<K: Portable, V: Portable, const E: usize>(
+    map: Seal<'_, ArchivedBTreeMap<K, V, E>>,
+    byte: u8,
+) -> Option<(usize, usize)>
+    requires { HasValue (tree E K.shape V.shape) (both K.knows V.knows) map.bytes.now map.pos }
+{
+    let mut values = ArchivedBTreeMap::values_seal(map);
+    let at = match values.next() {
+        Some(value) => {
+            value.own.fill(byte);
+            value.pos()
+        }
+        None => return None,
+    };
+    Some((at, values.len()))
+}
+
+/// Returns what both return of the map of four texts, and the bytes after the values were filled with 7.
+fn filled_first(
+    alloc: Global,
+) -> Option<(Option<(usize, usize)>, Option<(usize, usize)>, [u8; 76])> {
+    let pos = root_of::<Texts>(alloc, FOUR_TEXTS)?.pos();
+    let (mut bytes, mut again) = (*FOUR_TEXTS, *FOUR_TEXTS);
+    let first = fill_first(Seal::<Texts>::new(&mut bytes, pos), 7);
+    let value = fill_first_value(Seal::<Texts>::new(&mut again, pos), 7);
+    if bytes == again {
+        Some((first, value, bytes))
+    } else {
+        None
+    }
+}
+
+#[test]
+fn cursors_count_what_is_left(rt: HostRuntime) {
+    let mut expected = *FOUR_TEXTS;
+    expected[44..48].fill(7);
+    let first = Some((44, 3));
+    assert!(rt; filled_first(rt.alloc()) == Some((first, first, expected)));
+}
+
 /// Appends the positions of the values of the entries between two bounds.
 fn note_range<K: ArchivedKey<Q>, V: Portable, Q, R: RangeBounds<Q>, const E: usize>(
     map: Seal<'_, ArchivedBTreeMap<K, V, E>>,

@@ -1,5 +1,5 @@
 //! Tests of archived index maps and sets: their entries in order, look-ups, writes through seals, comparing and printing.
-ghost use Rattle.std.specs.Prelude.{[]};
+ghost use Rattle.std.specs.Prelude.{◌≡◌, [], length};
 
 use crate::maps::prints;
 use crate::reading::root_of;
@@ -8,7 +8,7 @@ use archive_forms_comparing::{ArchivedEq, ArchivedHash};
 use archive_forms_values::ArchivedString;
 use archive_hash_probing::FxHasher64;
 use archive_index::{ArchivedIndexMap, ArchivedIndexSet};
-use archive_shape::{ArchivedU32, CheckBytes, Seal};
+use archive_shape::{ArchivedU32, CheckBytes, OwnSeal, Ref, Seal};
 use std::alloc::Global;
 use std::hash::Hasher;
 
@@ -109,6 +109,40 @@ fn values_are_written_over(rt: HostRuntime) {
     assert!(rt;
         lent(rt.alloc(), "a", 9) == Some((Some((1, 56)), Some(56), [9, 9, 9]))
             && lent(rt.alloc(), "b", 9) == Some((None, None, [2, 2, 2]))
+    );
+}
+
+/// Returns the number and the position of the key that visits of a text's entry return, and the lowest byte of the value
+/// of a after `number` was put over the visited value.
+fn visited(
+    alloc: Global,
+    text: &str,
+    number: u32,
+) -> Option<(Option<(usize, usize)>, Option<usize>, [u8; 2])> {
+    let pos = root_of::<Numbers>(alloc, &TWO).ok()?.pos();
+    let (mut first, mut second) = (TWO, TWO);
+    let mut put = |key: Ref<'_, ArchivedString>, value: &mut OwnSeal<'_, ArchivedU32>| -> usize
+        requires { length value.now.own.now ≡ 4 }
+    {
+        value.put(number);
+        key.pos()
+    };
+    let map = Seal::<Numbers>::new(&mut first, pos);
+    let full = ArchivedIndexMap::visit_full_seal(map, &text, &mut put);
+    let map = Seal::<Numbers>::new(&mut second, pos);
+    let pair = ArchivedIndexMap::visit_key_value_seal(map, &text, &mut put);
+    let others_are_kept = first[..64] == TWO[..64] && second[..64] == TWO[..64];
+    if !others_are_kept || first[68..] != TWO[68..] || second[68..] != TWO[68..] {
+        return None;
+    }
+    Some((full, pair, [first[64], second[64]]))
+}
+
+#[test]
+fn calls_that_values_are_lent_to_write_the_found_value(rt: HostRuntime) {
+    assert!(rt;
+        visited(rt.alloc(), "a", 9) == Some((Some((1, 56)), Some(56), [9, 9]))
+            && visited(rt.alloc(), "b", 9) == Some((None, None, [2, 2]))
     );
 }
 

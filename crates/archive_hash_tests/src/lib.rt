@@ -8,6 +8,8 @@ mod checking;
 #[cfg(test)]
 mod index_maps;
 #[cfg(test)]
+mod index_owned;
+#[cfg(test)]
 mod index_reading;
 #[cfg(test)]
 mod index_writing;

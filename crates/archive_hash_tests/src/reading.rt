@@ -3,9 +3,9 @@ ghost use Rattle.std.specs.Prelude.{◌≡◌, [], IfOk};
 ghost use Rattle.archive_forms_values.specs.Parts.{HasValue};
 
 use archive_core_validation::{HighValidator, access};
-use archive_forms_values::{ArchivedString, native_of};
-use archive_hash_maps::{ArchivedHashMap, ArchivedHashTable};
-use archive_hash_probing::{FxHasher64, Group1, Group8, Group16, Scan};
+use archive_forms_values::native_of;
+use archive_hash_maps::ArchivedHashTable;
+use archive_hash_probing::{Group1, Group8, Group16, Scan};
 use archive_shape::{ArchivedU32, CheckBytes, Error, Ref, Steps};
 use std::alloc::Global;
 
@@ -15,15 +15,6 @@ pub(crate) const ONE_OF_TWO: [u8; 52] = [
     7, 0, 0, 0, 0, 0, 0, 0, 0xff, 0x55, 0xff, 0x55, 0xff, 0xff, 0xff, 0xff, 0xff, 0xff, 0xff, 0xff,
     0xff, 0xff, 0xff, 0xff, 0xff, 0xff, 0xff, 0xff, 0xff, 0xff, 0xff, 0xff, 0xff, 0xff, 0xff, 0xff,
     0xff, 0xff, 0xff, 0, 0xe0, 0xff, 0xff, 0xff, 1, 0, 0, 0, 2, 0, 0, 0,
-];
-
-/// A map from the text `a` to the number 1, whose table has two places: the hash of the text is odd, and its tag is
-/// 0x55.
-pub(crate) const A_TO_ONE: [u8; 68] = [
-    b'a', 0xff, 0xff, 0xff, 0xff, 0xff, 0xff, 0xff, 1, 0, 0, 0, 0, 0, 0, 0, 0, 0, 0, 0, 0, 0, 0, 0,
-    0xff, 0x55, 0xff, 0x55, 0xff, 0xff, 0xff, 0xff, 0xff, 0xff, 0xff, 0xff, 0xff, 0xff, 0xff, 0xff,
-    0xff, 0xff, 0xff, 0xff, 0xff, 0xff, 0xff, 0xff, 0xff, 0xff, 0xff, 0xff, 0xff, 0xff, 0xff, 0,
-    0xe0, 0xff, 0xff, 0xff, 1, 0, 0, 0, 2, 0, 0, 0,
 ];
 
 /// The hash of the text `a`.
@@ -68,6 +59,3 @@ fn items_are_found_at_every_width(rt: HostRuntime) {
             && finds::<Group16>(alloc, 0, None)
     );
 }
-
-/// An archived map from texts to numbers.
-pub(crate) type Numbers = ArchivedHashMap<ArchivedString, ArchivedU32, FxHasher64>;

@@ -4,7 +4,8 @@ ghost use Rattle.archive_forms_values.specs.Tuples.{tuple2};
 ghost use Rattle.archive_forms_values.specs.Parts.{HasValue, both};
 
 use crate::maps::{Keys, NOTHING, THREE, Texts};
-use crate::reading::{A_TO_ONE, Numbers, root_of};
+use crate::reading::root_of;
+use archive_forms_values::{ArchivedString, ArchivedTuple2};
 use archive_hash_maps::{
     ArchivedHashMap, ArchivedHashSet, ArchivedHashTable, HashMapResolver, HashSetResolver,
     HashTableResolver,
@@ -60,39 +61,94 @@ fn calls_that_values_are_lent_to_write_each_value(rt: HostRuntime) {
     assert!(rt; bytes == expected && nothing == NOTHING);
 }
 
-/// Returns the positions of the key and the value that a cursor lends first, after filling the value with a byte.
+/// Returns the positions of the key and the value that a cursor lends first, after filling the value with a byte, and the
+/// number of entries that are left after it.
 fn fill_first<K: Portable, V: Portable, H>(
+    map: Seal<'_, ArchivedHashMap<K, V, H>>,
+    byte: u8,
+) -> Option<(usize, usize, usize)>
+    requires { HasValue (table (tuple2 K.shape V.shape)) (both K.knows V.knows) map.bytes.now map.pos }
+{
+    let mut entries = ArchivedHashMap::iter_seal(map);
+    let (key, value) = match entries.next() {
+        Some((key, value)) => {
+            value.own.fill(byte);
+            (key.pos(), value.pos())
+        }
+        None => return None,
+    };
+    Some((key, value, entries.len()))
+}
+
+/// Returns the position of the value that a cursor lends first, after filling it with a byte, and the number of values that
+/// are left after it.
+fn fill_first_value<K: Portable, V: Portable, H>(
     map: Seal<'_, ArchivedHashMap<K, V, H>>,
     byte: u8,
 ) -> Option<(usize, usize)>
     requires { HasValue (table (tuple2 K.shape V.shape)) (both K.knows V.knows) map.bytes.now map.pos }
 {
-    let mut entries = ArchivedHashMap::iter_seal(map);
-    match entries.next() {
-        Some((key, value)) => {
+    let mut values = ArchivedHashMap::values_seal(map);
+    let at = match values.next() {
+        Some(value) => {
             value.own.fill(byte);
-            Some((key.pos(), value.pos()))
+            value.pos()
         }
-        None => None,
-    }
+        None => return None,
+    };
+    Some((at, values.len()))
 }
 
-/// Returns those positions for the map from `a` to 1, and the bytes after the value was filled.
-fn filled_first(alloc: Global, byte: u8) -> Option<((usize, usize), [u8; 68])> {
-    let mut bytes = A_TO_ONE;
-    let Ok(root) = root_of::<Numbers>(alloc, &bytes) else {
+/// Returns what both return for the map of three texts, and the bytes after the two values were filled.
+fn filled_first(alloc: Global) -> Option<((usize, usize, usize), (usize, usize), [u8; 108])> {
+    let mut bytes = THREE;
+    let Ok(root) = root_of::<Texts>(alloc, &THREE) else {
         return None;
     };
     let pos = root.pos();
-    let first = fill_first(Seal::<Numbers>::new(&mut bytes, pos), byte)?;
-    Some((first, bytes))
+    let mut again = THREE;
+    let first = fill_first(Seal::<Texts>::new(&mut bytes, pos), 9)?;
+    let value = fill_first_value(Seal::<Texts>::new(&mut again, pos), 9)?;
+    if bytes == again {
+        Some((first, value, bytes))
+    } else {
+        None
+    }
 }
 
 #[test]
 fn cursors_lend_keys_beside_their_values(rt: HostRuntime) {
-    let mut expected = A_TO_ONE;
-    expected[8..12].fill(9);
-    assert!(rt; filled_first(rt.alloc(), 9) == Some(((0, 8), expected)));
+    let mut expected = THREE;
+    expected[56..64].fill(9);
+    assert!(rt; filled_first(rt.alloc()) == Some(((48, 56, 2), (56, 2), expected)));
+}
+
+/// Returns the position of the item that a cursor lends first, and the number of items that are left after it.
+fn first_item<T: Portable>(table: Seal<'_, ArchivedHashTable<T>>) -> Option<(usize, usize)>
+    requires { HasValue (table T.shape) T.knows table.bytes.now table.pos }
+{
+    let mut items = ArchivedHashTable::raw_iter_seal(table);
+    let at = match items.next() {
+        Some(item) => item.pos(),
+        None => return None,
+    };
+    Some((at, items.len()))
+}
+
+/// The map of three texts as a table of its entries.
+type Entries = ArchivedHashTable<ArchivedTuple2<ArchivedString, ArchivedString>>;
+
+#[test]
+fn cursors_count_the_items_that_are_left(rt: HostRuntime) {
+    let mut bytes = THREE;
+    match root_of::<Entries>(rt.alloc(), &THREE) {
+        Ok(root) => {
+            let pos = root.pos();
+            let table = Seal::<Entries>::new(&mut bytes, pos);
+            assert!(rt; first_item(table) == Some((48, 2)));
+        }
+        Err(_) => assert!(rt; false),
+    }
 }
 
 /// The own bytes of a table of one item, as they are in the archive of one item.

@@ -1,10 +1,11 @@
 -- An archived index map has the entries that it was written of in their order, and answers their keys.
-use Rattle.std.proofs.Common.{◌≡◌, ◌∙◌, ℕ, suc, ◌+◌, ◌*◌, ◌<◌, Bool, true, List, [], ◌∷◌, length, map, get_or, Option, Some, None, MatchOption, refl, ap, sym, subst, arith}
+use Rattle.std.proofs.Common.{◌≡◌, ◌∙◌, ℕ, suc, ◌+◌, ◌*◌, ◌<◌, nat_lt, lt-ltb, cond, Bool, true, false, List, [], ◌∷◌, length, map, get_or, Option, Some, None, MatchOption, refl, ap, sym, subst, arith}
 use Rattle.std.specs.Option.{IsSomeAnd, option_map}
-use Rattle.std.specs.List.{AllZip}
+use Rattle.std.specs.List.{AllZip, position, position_or_len}
 use Rattle.std.specs.Ordering.{is_eq}
 use Rattle.std.specs.declared.cmp.Ordering.{Ordering}
 use Rattle.std.proofs.lemmas.List.{length-map, get_or_default}
+use Rattle.std.proofs.lemmas.List.Sums.{position_or_len_is}
 use Rattle.archive_shape_layout.specs.Bytes.{word_at}
 use Rattle.archive_shape_layout.specs.Shape.{Shape, size_of}
 use Rattle.archive_shape_layout.specs.Shape.Shape.{index_map}
@@ -33,7 +34,7 @@ use Rattle.archive_hash_writing.proofs.SpellingFitting.{above}
 use Rattle.archive_hash.specs.Answering.{HasEntry, first_with}
 use Rattle.archive_hash.proofs.Answering.{entry_held, hashes_small, place_found}
 use Rattle.archive_index.specs.Maps.{count_of, entry_position, adjacent}
-use Rattle.archive_index.specs.Answering.{IsWrittenMap, FindsNumber, AnswersInOrder}
+use Rattle.archive_index.specs.Answering.{IsWrittenMap, FindsNumber, AnswersInOrder, first_number}
 use Rattle.archive_index.proofs.Read.{map_is_read}
 use Rattle.archive_index.proofs.Filled.{IsFilledMap, filled_map}
 
@@ -48,6 +49,13 @@ zip_side P size at (x ∷ xs) h =
           let next : at + suc i * size ≡ at + size + i * size = omega (arith, more) in
           subst (λ a. P a (get_or xs i d)) next (h (suc i) d (omega (arith, l)))),
     )
+
+-- the first element that passes has this number
+number_is : {X : Type 0} (p : X → Bool) (xs : List X) (i : ℕ) (d : X) → i < length xs → p (get_or xs i d) ≡ true → ((j : ℕ) → j < i → p (get_or xs j d) ≡ false)
+    → position p xs ≡ Some i
+number_is p xs i d within passes before =
+    let first : position_or_len p xs ≡ i = position_or_len_is p xs i d (omega (arith, within)) before (λ l. passes) in
+    ap (λ n. cond (nat_lt n (length xs)) (Some n) None) first ∙ ap (λ b. cond b (Some i) None) (lt-ltb i (length xs) within)
 
 -- a map without entries has no places
 no_places : (bytes : List ℕ) (pos : ℕ) (b : Buckets) → IsTableAt bytes number_shape pos b → length (full_places b) ≡ 0 → b ≡ no_buckets
@@ -92,7 +100,9 @@ module _ {A B R P : Type 0} (k v : Shape) (knows others : Names → Type 0) (key
       found_by : (hash n : ℕ) (found place : Option ℕ) → hash ≡ input_hash (query_fed query) → found ≡ option_map Number place
           → Rattle.archive_hash_probing.specs.Search.IsLookup (λ p x. Says (Number p) x) t.map.buckets.controls t.map.buckets.cap hash place n
           → (o : Option (A × B)) → first_with k v knows others keys vals bytes key order query es ≡ o
-          → MatchOption o (option_map (word_at bytes) found ≡ None) (λ e. IsSomeAnd (option_map (word_at bytes) found) (λ i. (i < length es) × (get_or es i e ≡ e) × Entry (entry_position k v t.map i) e))
+          → MatchOption o (option_map (word_at bytes) found ≡ None)
+          (λ e. (option_map (word_at bytes) found ≡ first_number k v knows others keys vals bytes key order query es)
+          × IsSomeAnd (option_map (word_at bytes) found) (λ i. (i < length es) × (get_or es i e ≡ e) × Entry (entry_position k v t.map i) e))
       found_by hash n found place is_hash is a None none =
           let no = place_found k v knows others keys vals bytes key order key_of represents one_key fed query_fed fed_as_key alike hashes one
           most places d es some t.map.buckets.cap t.map.buckets.controls Position t.cap t.controls entry_at query hash n place is_hash a None none in
@@ -105,7 +115,10 @@ module _ {A B R P : Type 0} (k v : Shape) (knows others : Names → Type 0) (key
           let entry_is : get_or es i e ≡ e = get_or_default es i e d within ∙ f.0.is in
           let there : Entry (entry_position k v t.map i) e = subst (Entry (entry_position k v t.map i)) f.0.is (numbered_entry i d within) in
           let number : option_map (word_at bytes) found ≡ Some i = ap (option_map (word_at bytes)) (is ∙ ap (option_map Number) f.1) ∙ ap Some (t.numbered i within) in
-          subst (λ o. IsSomeAnd o (λ n. (n < length es) × (get_or es n e ≡ e) × Entry (entry_position k v t.map n) e)) (sym number) (within, entry_is, there)
+          let first_is = number_is (λ x. is_eq (order (key x.0) query)) es i d within f.0.passed f.0.before in (
+            number ∙ sym first_is,
+            subst (λ o. IsSomeAnd o (λ n. (n < length es) × (get_or es n e ≡ e) × Entry (entry_position k v t.map n) e)) (sym number) (within, entry_is, there),
+          )
 
       looked_up : (hash n : ℕ) (found : Option ℕ) → hashes query hash → LooksUp Says number_shape t.map.buckets hash found n → FindsNumber k v knows others keys vals bytes key order t.map es query (option_map (word_at bytes) found)
       looked_up hash n found h (has_no_places none e f) = absurd (let more = above most places (map hash_of es) es (length-map es hash_of) some in let is = t.cap in omega (arith, none, more, is))

@@ -11,4 +11,6 @@ pub mod ReadBack
 pub mod Resolved
 pub mod Standing
 pub mod TableAndEntries
+pub mod Visited
 pub mod Walk
+pub mod WrittenPairs

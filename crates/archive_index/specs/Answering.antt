@@ -1,7 +1,8 @@
 -- What an archived index map returns for the entries that it was written of.
 use Rattle.std.specs.Prelude.{true, ◌≡◌, ℕ, ◌<◌, List, length, get_or, Option, None, MatchOption}
 use Rattle.std.specs.Option.{IsSomeAnd, option_map}
-use Rattle.std.specs.List.{AllZip}
+use Rattle.std.specs.List.{AllZip, position}
+use Rattle.std.specs.Ordering.{is_eq}
 use Rattle.std.specs.declared.cmp.Ordering.{Ordering}
 use Rattle.archive_shape_layout.specs.Bytes.{word_at}
 use Rattle.archive_shape_layout.specs.Shape.{Shape}
@@ -48,11 +49,16 @@ module _ {A B R P : Type 0} (k v : Shape) (knows others : Names → Type 0) (key
         CanonicalArchive fit names bytes start (root_position (length bytes) (index_map k v)) (index_map k v) ((index_spelled most places fed).value es state) regions visits
 
   module _ {Q : Type 0} (key : A → Q) (order : Q → Q → Ordering) where
-    -- what is found is the number of the first entry whose key equals a query, and nothing if there is none
+    -- the number of the first entry whose key equals a query
+    abbrev pub first_number : Q → List (A × B) → Option ℕ
+    first_number query es = position (λ e. is_eq (order (key e.0) query)) es
+
+    -- what is found is this number, where the first entry with the key lies, and nothing if there is none
     abbrev pub FindsNumber : IndexMap → List (A × B) → Q → Option ℕ → Type 0
     FindsNumber m es query found =
         MatchOption (first_with k v knows others keys vals bytes key order query es) (found ≡ None)
-        (λ e. IsSomeAnd found (λ i. (i < length es) × (get_or es i e ≡ e) × HasEntry k v knows others keys vals bytes (entry_position k v m i) e))
+        (λ e. (found ≡ first_number query es)
+        × IsSomeAnd found (λ i. (i < length es) × (get_or es i e ≡ e) × HasEntry k v knows others keys vals bytes (entry_position k v m i) e))
 
     -- the map at a position has these entries in this order, and a look-up of a key finds the number of the first entry
     -- with the key

@@ -5,6 +5,8 @@ pub mod Entries
 pub mod Keys
 pub mod Laws
 pub mod Lending
+pub mod Owned
 pub mod Reading
 pub mod Search
+pub mod Visits
 pub mod Writing

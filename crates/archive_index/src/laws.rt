@@ -2,7 +2,7 @@
 ghost use Rattle.std.specs.Prelude.{◌≡◌};
 ghost use Rattle.archive_forms.specs.Faithful.{IsFaithful};
 ghost use Rattle.archive_forms_laws.specs.Orders.{no_fields_equality, no_fields_hashed, more_fields_equality, more_fields_hashed, tuple_equality, tuple_hashed, unit_equality, vector_equality, vector_hashed};
-ghost use Rattle.archive_index.specs.Calls.Laws.{WrittenMapAnswers, MapsAreFaithful, SetsAreFaithful};
+ghost use Rattle.archive_index.specs.Calls.Laws.{MapsAreFaithful, OwnedMapIsWritten, PlainMapIsWritten, SetsAreFaithful, WrittenMapAnswers};
 
 use crate::map::ArchivedIndexMap;
 use crate::set::ArchivedIndexSet;
@@ -20,6 +20,14 @@ where
     K::Archived: HashedKeyOf<K, Q>,
     ensures { WrittenMapAnswers K.Archived.HashedKey K.Archived.key V.Archived.Portable K.spelling V.spelling K.Hash Q.Hash
         ⟦<FxHasher64 as Default>⟧ ⟦<FxHasher64 as Hasher>⟧ }
+{}
+
+/// States that what is written of an `OwnedIndexMap` as a whole archive is the archive of an index map of its pairs, for
+/// which [`written_map_answers`] holds: under each fit that binds and suits it, and without one where each fit suits all
+/// keys and values, as where they have no tables.
+pub fn owned_map_is_written<K: Archive + Hash, V: Archive>()
+    ensures fitted { OwnedMapIsWritten K.Archived.Portable V.Archived.Portable K.spelling V.spelling K.Hash }
+    ensures plain { PlainMapIsWritten K.Archived.Portable V.Archived.Portable K.spelling V.spelling K.Hash }
 {}
 
 /// States that index maps and sets are read back as lists that are archived as the values they were read of, where their

@@ -5,6 +5,7 @@
 mod check;
 pub mod laws;
 pub mod map;
+mod owned;
 pub mod set;
 mod writing;
 
@@ -14,5 +15,6 @@ pub use map::{
     ArchivedIndexMap, Iter, Keys, Values, deserialize_index_map_each, map_is_read, one_map,
     search_entries,
 };
+pub use owned::OwnedIndexMap;
 pub use set::{ArchivedIndexSet, IndexSetResolver, deserialize_index_set_each};
 pub use writing::{serialize_entries_with_each, serialize_from_iter_scan_each};

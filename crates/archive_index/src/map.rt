@@ -13,6 +13,7 @@ mod map;
 mod resolving;
 mod seal;
 mod search;
+mod visit;
 
 pub use deserialize::deserialize_index_map_each;
 pub use iter::{Iter, Keys, Values};

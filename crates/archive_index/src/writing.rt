@@ -9,4 +9,5 @@ mod numbers;
 mod pair_with;
 
 pub use entries::serialize_entries_with_each;
+pub(crate) use entries::serialize_pairs_each;
 pub use iterators::serialize_from_iter_scan_each;

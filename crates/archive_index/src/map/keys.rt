@@ -12,7 +12,8 @@ use archive_shape::{Portable, Ref};
 use std::hash::{Hash, Hasher};
 
 impl<K, V: Portable, H: Hasher + Default + Drop> ArchivedIndexMap<K, V, H> {
-    /// Returns the number of a key's entry, the key and its value, if the map has the key.
+    /// Returns the number of a key's entry, the key and its value, if the map has the key. Of a map that was written it is the
+    /// first entry with the key, by the law `written_map_answers`.
     pub fn get_full<'a, Q: Hash>(
         this: Ref<'a, ArchivedIndexMap<K, V, H>>,
         query: &Q,
@@ -67,7 +68,7 @@ impl<K, V: Portable, H: Hasher + Default + Drop> ArchivedIndexMap<K, V, H> {
         }
     }
 
-    /// Returns the number of a key's entry, if the map has the key.
+    /// Returns the number of a key's entry, if the map has the key: that of [`ArchivedIndexMap::get_full`].
     pub fn get_index_of<Q: Hash>(
         this: Ref<'_, ArchivedIndexMap<K, V, H>>,
         query: &Q,

@@ -16,7 +16,7 @@ use std::hash::{Hash, Hasher};
 impl<K, V: Portable, H: Hasher + Default + Drop> ArchivedIndexMap<K, V, H> {
     /// Returns the number of a key's entry, the key, and its value with only the value's own bytes, if the map has the
     /// key. The key is read from the bytes before the value's own bytes, where all that the key points to lies. The
-    /// contract does not state the buffer after the loan.
+    /// contract does not state the buffer after the call; that of [`ArchivedIndexMap::visit_full_seal`] does.
     pub fn get_full_seal<'a, Q: Hash>(
         this: Seal<'a, ArchivedIndexMap<K, V, H>>,
         query: &Q,
@@ -41,7 +41,7 @@ impl<K, V: Portable, H: Hasher + Default + Drop> ArchivedIndexMap<K, V, H> {
     }
 
     /// Returns a key, and its value with only the value's own bytes, if the map has the key. The contract does not state
-    /// the buffer after the loan.
+    /// the buffer after the call; that of [`ArchivedIndexMap::visit_key_value_seal`] does.
     pub fn get_key_value_seal<'a, Q: Hash>(
         this: Seal<'a, ArchivedIndexMap<K, V, H>>,
         query: &Q,
@@ -64,7 +64,8 @@ impl<K, V: Portable, H: Hasher + Default + Drop> ArchivedIndexMap<K, V, H> {
         }
     }
 
-    /// Returns the value of a key, if the map has the key. The contract does not state the buffer after the loan.
+    /// Returns the value of a key, if the map has the key. The contract does not state the buffer after the call; that of
+    /// [`ArchivedIndexMap::visit_key_value_seal`] does.
     pub fn get_seal<'a, Q: Hash>(
         this: Seal<'a, ArchivedIndexMap<K, V, H>>,
         query: &Q,
@@ -138,7 +139,7 @@ impl<K: Portable, V: Portable, H: Hasher + Default + Drop> ArchivedIndexMap<K, V
     }
 
     /// Returns the value of the entry that [`ArchivedIndexMap::get_full_seal_with`] returns. The contract does not state
-    /// the buffer after the loan.
+    /// the buffer after the call; that of [`ArchivedIndexMap::visit_key_value_seal_with`] does.
     pub fn get_seal_with<'a, Q: Hash, F: Fn(&Q, Ref<'_, K>) -> bool>(
         this: Seal<'a, ArchivedIndexMap<K, V, H>>,
         query: &Q,

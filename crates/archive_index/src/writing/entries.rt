@@ -46,7 +46,7 @@ fn serialize_pair<
 }
 
 /// Writes the index map of pairs, whose data `step` writes. The values are archived by `with`.
-fn serialize_pairs_each<
+pub(crate) fn serialize_pairs_each<
     K: Archive + Hash,
     V,
     A: ArchiveWith<V>,

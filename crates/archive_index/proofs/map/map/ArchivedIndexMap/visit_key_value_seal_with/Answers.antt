@@ -1,0 +1,14 @@
+use denote.MutBor.{as_bor}
+use Rattle.std.proofs.Common.{refl}
+use Rattle.archive_index.proofs.map.map.ArchivedIndexMap.visit_key_value_seal_with.Goals as goal
+
+pub search_with-found-requires-clause-callable : goal.search_with-found-requires-clause-callable
+search_with-found-requires-clause-callable g c at key = c.requires.callable (as_bor c.args.this.bytes) at refl key
+
+pub returns : goal.returns
+returns g c m is =
+    let visited = c.in-Some.ensures m is in
+    (as_bor c.args.this.bytes, refl, c.search_with-found.result, c.search_with-found.ensures.answers m is, (visited.0, visited.1, visited.2.1))
+
+pub returns-in_default : goal.returns-in_default
+returns-in_default g c m is = (as_bor c.args.this.bytes, refl, c.search_with-found.result, c.search_with-found.ensures.answers m is, c.in_default.ensures m is)
