@@ -1,4 +1,5 @@
 mod Answering
+mod Ascending
 mod InOrder
 pub mod Keyed
 pub mod Listed

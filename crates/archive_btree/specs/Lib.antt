@@ -1,3 +1,4 @@
 pub mod Answering
+pub mod Laws
 pub mod Owned
 pub mod ReadBack

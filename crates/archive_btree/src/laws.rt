@@ -3,9 +3,12 @@
 ghost use Rattle.std.specs.Prelude.{ℕ, ◌<◌, List, length};
 ghost use Rattle.archive_shape_layout.specs.Shape.Shape.{tree};
 ghost use Rattle.archive_shape_layout.specs.Holds.{root_position};
+ghost use Rattle.archive_forms.specs.Alike.{AlikeAreEqual};
+ghost use Rattle.archive_forms.specs.Faithful.{AreFaithful};
 ghost use Rattle.archive_btree.specs.Answering.{IsWrittenMap, KeysAscend, AnswersKeys};
+ghost use Rattle.archive_btree.specs.Laws.{MapsAreReadBack, SetsAreReadBack};
 
-use crate::OwnedBTreeMap;
+use crate::{OwnedBTreeMap, OwnedBTreeSet};
 pub use archive_btree_layout::{
     descent_finds, descent_is_equal, descent_meets, nodes_stay, one_packed, packed_height,
     packed_is_least, pairs_stay, tree_is_read, tree_stays, values_apart,
@@ -16,10 +19,12 @@ pub use archive_btree_maps::{
     map_equalities_are_equivalences, maps_are_equal_by_entries, maps_are_hashed_by_entries,
     set_equalities_are_equivalences, set_is_read, sets_are_equal_by_keys, sets_are_hashed_by_keys,
 };
+use archive_btree_maps::{ArchivedBTreeMap, ArchivedBTreeSet};
 pub use archive_btree_spelling::{
     maps_are_packed, maps_are_written, six_pairs_are_written, trees_are_packed, written_is_least,
     written_is_packed, written_is_read,
 };
+use archive_forms::ReadBack;
 use archive_forms_writing::{Archive, KeyOf};
 
 /// The archive of entries whose keys ascend has the entries that it was written of, in order, and a look-up of a key
@@ -49,3 +54,25 @@ where
     // The call ensures that the keys ascend.
     let _len = map.map.len();
 }
+
+/// What a map of std is archived as is read back as maps that have its entries, in order, and a set as sets that have its
+/// elements: no more, no fewer and no others. They are the same values where values of their types that are archived
+/// alike are one. Bytes that were not written of a map may have keys in another order, or equal ones; of these the law
+/// does not speak.
+pub fn maps_are_read_back<
+    K: Archive + Ord,
+    V: Archive,
+    A: ReadBack<K>,
+    B: ReadBack<V>,
+    const E: usize,
+>()
+    requires keys { AreFaithful K.Archive A.ReadBack }
+    requires values { AreFaithful V.Archive B.ReadBack }
+    requires alike { AlikeAreEqual K.spelling K.eq }
+    ensures maps { MapsAreReadBack ⟦<OwnedBTreeMap<K, V, E> as Archive>⟧
+        ⟦<ArchivedBTreeMap<A, B, E> as ReadBack<OwnedBTreeMap<K, V, E>>>⟧
+        (λ m. m.map.entries) K.cmp K.spelling V.spelling }
+    ensures sets { SetsAreReadBack ⟦<OwnedBTreeSet<K, E> as Archive>⟧
+        ⟦<ArchivedBTreeSet<A, E> as ReadBack<OwnedBTreeSet<K, E>>>⟧
+        (λ s. s.set.keys) K.cmp K.spelling }
+{}

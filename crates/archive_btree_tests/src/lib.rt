@@ -16,6 +16,8 @@ mod printing;
 #[cfg(test)]
 mod ranges;
 #[cfg(test)]
+mod read_back;
+#[cfg(test)]
 mod reading;
 #[cfg(test)]
 mod sealing;

@@ -3,11 +3,13 @@ ghost use Rattle.archive_core.specs.Laws.{WrittenIsAccepted, ReadBackIsWritten, 
 
 pub use archive_core_validation::{nesting_is_bounded, unlimited_is_no_limit};
 pub use archive_forms::laws::{
+    alike_forms_are_equal, alike_forms_are_one, alike_leaves_are_one,
+    alike_nonzero_numbers_are_one, alike_texts_are_equal, alike_tuples_are_equal,
     equal_values_are_hashed_alike, equalities_are_equivalences, forms_are_faithful, held_is_text,
-    keyed_lists_are_written, leaf_spells, leaves_are_faithful, one_present_is_written, one_text,
-    optional_lists_are_written, orders_agree, orders_are_total, out_of_line_capacity,
-    pairs_are_written, texts_are_faithful, texts_are_written, tuples_are_faithful,
-    two_shared_is_written, written_once,
+    keyed_lists_are_written, leaf_spells, leaves_are_faithful, one_is_equal,
+    one_present_is_written, one_text, optional_lists_are_written, orders_agree, orders_are_total,
+    out_of_line_capacity, pairs_are_written, texts_are_faithful, texts_are_written,
+    tuples_are_faithful, two_shared_is_written, written_once,
 };
 use archive_forms::{Archive, ReadBack};
 pub use archive_shape::laws::{

@@ -1,3 +1,4 @@
+pub mod AlikeParts
 mod Counted
 pub mod Faithful
 pub mod Fields

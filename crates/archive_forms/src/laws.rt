@@ -1,5 +1,9 @@
 //! The laws of all parts of `archive_forms`. Each is a function with an empty body, whose contract is
 //! the law. Those of the one archive of a value, which writing makes, are here too.
+pub use crate::alike::{
+    alike_forms_are_equal, alike_forms_are_one, alike_leaves_are_one,
+    alike_nonzero_numbers_are_one, alike_texts_are_equal, alike_tuples_are_equal, one_is_equal,
+};
 pub use crate::deserializing::laws::{
     forms_are_faithful, leaves_are_faithful, texts_are_faithful, tuples_are_faithful,
 };

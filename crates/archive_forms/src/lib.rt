@@ -1,6 +1,7 @@
 //! Archived forms: how values are written, checked, read in place, compared, and read back as owned values.
 #![tactic(auto)]
 
+mod alike;
 mod deserializing;
 
 pub use deserializing::{

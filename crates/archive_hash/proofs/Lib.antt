@@ -2,6 +2,8 @@ pub mod Answering
 pub mod Given
 mod Inserted
 pub mod Items
+mod ReadAlike
+mod Reordered
 pub mod Resolved
 mod StdMaps
 pub mod Whole

@@ -10,6 +10,7 @@ use Rattle.std.specs.List.Sorted.{IsPermutation}
 use Rattle.std.specs.Map.{keys_of, lookup}
 use Rattle.std.proofs.lemmas.Map.{keys-set_value}
 use Rattle.std.proofs.lemmas.List.Sorted.{IsPermutation-map}
+use Rattle.archive_forms.proofs.AlikeParts.{keys_back}
 use Rattle.archive_hash.specs.Owned.{key_entries}
 use Rattle.archive_hash.proofs.Inserted.{PutsKey}
 
@@ -32,11 +33,6 @@ module _ {A B S : Type 0} (eq : A → A → Bool) (m n : HashMap A B S) (x : A �
   map_put (Err e) done is put updates = absurd cc
 
 -- ---- sets
-
--- the keys of a set as entries
-pub keys_back : {A : Type 0} (ks : List A) → keys_of (key_entries ks) ≡ ks
-keys_back [] = refl
-keys_back (k ∷ ks) = ap (λ l. k ∷ l) (keys_back ks)
 
 module _ {A : Type 0} (eq : A → A → Bool) where
   abbrev unit_of : Bool → Option (Unit {0})

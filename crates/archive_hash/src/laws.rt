@@ -1,12 +1,17 @@
 //! The laws of all parts of `archive_hash`. Each is a function with an empty body, whose contract is the law.
-ghost use Rattle.archive_hash.specs.Calls.Laws.{WrittenMapAnswers};
+ghost use Rattle.archive_forms.specs.Alike.{AlikeAreEqual};
+ghost use Rattle.archive_forms.specs.Faithful.{AreFaithful};
+ghost use Rattle.archive_hash.specs.Calls.Laws.{WrittenMapAnswers, MapsAreReadBack, SetsAreReadBack};
 
 use crate::keys::HashedKeyOf;
+use crate::{OwnedHashMap, OwnedHashSet};
+use archive_forms::ReadBack;
 use archive_forms_writing::Archive;
 pub use archive_hash_maps::found_is_present;
 pub use archive_hash_maps::walking::{
     items_descend, keys_stay, one_hash, one_table, table_is_read, table_stays,
 };
+use archive_hash_maps::{ArchivedHashMap, ArchivedHashSet};
 use archive_hash_probing::FxHasher64;
 pub use archive_hash_probing::{
     counts_to_the_place, every_place_is_shown, few_strides, one_answer,
@@ -21,4 +26,20 @@ where
     K::Archived: HashedKeyOf<K, Q>,
     ensures { WrittenMapAnswers K.Archived.HashedKey K.Archived.key V.Archived.Portable K.spelling V.spelling K.Hash Q.Hash
         ⟦<FxHasher64 as Default>⟧ ⟦<FxHasher64 as Hasher>⟧ }
+{}
+
+/// What a map of std is archived as is read back as maps that have its entries, in some order, and a set as sets that have
+/// its elements: no more, no fewer and no others, and each look-up returns the same. They are the same values where values
+/// of their types that are archived alike are one. Bytes that were not written of a map may have equal keys; of these the
+/// law does not speak.
+pub fn maps_are_read_back<K: Archive + Eq + Hash, V: Archive, A: ReadBack<K>, B: ReadBack<V>>()
+    requires keys { AreFaithful K.Archive A.ReadBack }
+    requires values { AreFaithful V.Archive B.ReadBack }
+    requires alike { AlikeAreEqual K.spelling K.eq }
+    ensures maps { MapsAreReadBack ⟦<OwnedHashMap<K, V> as Archive>⟧
+        ⟦<ArchivedHashMap<A, B, FxHasher64> as ReadBack<OwnedHashMap<K, V>>>⟧
+        (λ m. m.map) K.eq K.spelling V.spelling }
+    ensures sets { SetsAreReadBack ⟦<OwnedHashSet<K> as Archive>⟧
+        ⟦<ArchivedHashSet<A, FxHasher64> as ReadBack<OwnedHashSet<K>>>⟧
+        (λ s. s.set) K.eq K.spelling }
 {}

@@ -22,6 +22,8 @@ mod maps;
 #[cfg(test)]
 mod placing;
 #[cfg(test)]
+mod read_back;
+#[cfg(test)]
 mod reading;
 #[cfg(test)]
 mod scanning;

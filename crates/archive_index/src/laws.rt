@@ -2,7 +2,7 @@
 ghost use Rattle.std.specs.Prelude.{◌≡◌};
 ghost use Rattle.archive_forms.specs.Faithful.{IsFaithful};
 ghost use Rattle.archive_forms_laws.specs.Orders.{no_fields_equality, no_fields_hashed, more_fields_equality, more_fields_hashed, tuple_equality, tuple_hashed, unit_equality, vector_equality, vector_hashed};
-ghost use Rattle.archive_index.specs.Calls.Laws.{MapsAreFaithful, OwnedMapIsWritten, PlainMapIsWritten, SetsAreFaithful, WrittenMapAnswers};
+ghost use Rattle.archive_index.specs.Calls.Laws.{MapsAreFaithful, MapsAreReadBack, OwnedMapIsWritten, PlainMapIsWritten, SetsAreFaithful, SetsAreReadBack, WrittenMapAnswers};
 
 use crate::map::ArchivedIndexMap;
 use crate::set::ArchivedIndexSet;
@@ -55,4 +55,16 @@ pub fn index_maps_are_equal_in_order<K: ArchivedEq, V: ArchivedEq, H>()
 pub fn index_maps_are_hashed_in_order<K: ArchivedHash, V: ArchivedHash, H>()
     ensures { ⟦<ArchivedIndexMap<K, V, H> as ArchivedHash>⟧.hashed
         ≡ vector_hashed (tuple_hashed (more_fields_hashed K.hashed (more_fields_hashed V.hashed no_fields_hashed))) }
+{}
+
+/// What an index map is archived as is read back as lists that have its pairs, in order, and what an index set is as lists
+/// that have its keys: no more, no fewer and no others. They are the same values where values of their types that are
+/// archived alike are one.
+pub fn index_maps_are_read_back<K: Archive + Hash, V: Archive, A: ReadBack<K>, B: ReadBack<V>>()
+    requires keys { IsFaithful K.spelling A.reads }
+    requires values { IsFaithful V.spelling B.reads }
+    ensures maps { MapsAreReadBack K.Hash K.Archived.shape V.Archived.shape K.spelling V.spelling
+        ⟦<ArchivedIndexMap<A, B, FxHasher64> as ReadBack<Vec<(K, V)>>>⟧ }
+    ensures sets { SetsAreReadBack K.Hash K.Archived.shape K.spelling
+        ⟦<ArchivedIndexSet<A, FxHasher64> as ReadBack<Vec<K>>>⟧ }
 {}

@@ -15,6 +15,7 @@ use Rattle.archive_forms_laws.specs.Forms.{seen_as}
 use Rattle.archive_forms_laws.specs.Regions.{all_suit}
 use Rattle.archive_forms_laws.specs.Spelling.{Spelling}
 use Rattle.archive_forms_laws.specs.State.{AreOneToOne, Keys}
+use Rattle.archive_forms.specs.Alike.{AreElementsOf, AreEntriesOf}
 use Rattle.archive_forms.specs.Calls.Forms.{ReadMembers}
 use Rattle.archive_forms.specs.Faithful.{IsFaithful}
 use Rattle.archive_hash_maps.specs.Calls.Keys.{Hashes}
@@ -67,3 +68,17 @@ MapsAreFaithful hash k v keys vals form =
 abbrev pub SetsAreFaithful : {A R : Type 0} → HashMembers A → Shape → Spelling A R → ReadMembers (Vec A Global) → Type 0
 SetsAreFaithful hash k keys form =
     IsFaithful (seen_as (λ xs. key_entries xs.items) (pairs_spelling (λ x. input_hash (hash.hash_input x)) k unit_shape keys unit_spelling)) form.reads
+
+-- what pairs are archived as is read back as lists that have the pairs, in order
+abbrev pub MapsAreReadBack : {A B R Q : Type 0} → HashMembers A → Shape → Shape → Spelling A R → Spelling B Q → ReadMembers (Vec (A × B) Global) → Type 0
+MapsAreReadBack {A = A} {B = B} hash k v keys vals form =
+    (es : List (A × B)) (read : Vec (A × B) Global)
+    → form.reads ((pairs_spelling (λ x. input_hash (hash.hash_input x)) k v keys vals).plain es) read
+    → AreEntriesOf keys vals es read.items
+
+-- what keys are archived as is read back as lists that have the keys, in order
+abbrev pub SetsAreReadBack : {A R : Type 0} → HashMembers A → Shape → Spelling A R → ReadMembers (Vec A Global) → Type 0
+SetsAreReadBack {A = A} hash k keys form =
+    (ks : List A) (read : Vec A Global)
+    → form.reads ((pairs_spelling (λ x. input_hash (hash.hash_input x)) k unit_shape keys unit_spelling).plain (key_entries ks)) read
+    → AreElementsOf keys ks read.items
