@@ -112,14 +112,17 @@ fn values_are_written_over(rt: HostRuntime) {
     );
 }
 
-/// Returns the number and the position of the key that visits of a text's entry return, and the lowest byte of the value
-/// of a after `number` was put over the visited value.
+/// Returns the number and the position of the key that visits of a text's entry return, and the two archives after `number`
+/// was put over the visited value.
 fn visited(
     alloc: Global,
     text: &str,
     number: u32,
-) -> Option<(Option<(usize, usize)>, Option<usize>, [u8; 2])> {
-    let pos = root_of::<Numbers>(alloc, &TWO).ok()?.pos();
+) -> Option<(Option<(usize, usize)>, Option<usize>, [[u8; 84]; 2])> {
+    let Ok(root) = root_of::<Numbers>(alloc, &TWO) else {
+        return None;
+    };
+    let pos = root.pos();
     let (mut first, mut second) = (TWO, TWO);
     let mut put = |key: Ref<'_, ArchivedString>, value: &mut OwnSeal<'_, ArchivedU32>| -> usize
         requires { length value.now.own.now ≡ 4 }
@@ -131,18 +134,16 @@ fn visited(
     let full = ArchivedIndexMap::visit_full_seal(map, &text, &mut put);
     let map = Seal::<Numbers>::new(&mut second, pos);
     let pair = ArchivedIndexMap::visit_key_value_seal(map, &text, &mut put);
-    let others_are_kept = first[..64] == TWO[..64] && second[..64] == TWO[..64];
-    if !others_are_kept || first[68..] != TWO[68..] || second[68..] != TWO[68..] {
-        return None;
-    }
-    Some((full, pair, [first[64], second[64]]))
+    Some((full, pair, [first, second]))
 }
 
 #[test]
 fn calls_that_values_are_lent_to_write_the_found_value(rt: HostRuntime) {
+    let mut changed = TWO;
+    changed[64] = 9;
     assert!(rt;
-        visited(rt.alloc(), "a", 9) == Some((Some((1, 56)), Some(56), [9, 9]))
-            && visited(rt.alloc(), "b", 9) == Some((None, None, [2, 2]))
+        visited(rt.alloc(), "a", 9) == Some((Some((1, 56)), Some(56), [changed; 2]))
+            && visited(rt.alloc(), "b", 9) == Some((None, None, [TWO; 2]))
     );
 }
 

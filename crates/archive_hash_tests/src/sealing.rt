@@ -124,10 +124,10 @@ fn cursors_lend_keys_beside_their_values(rt: HostRuntime) {
 }
 
 /// Returns the position of the item that a cursor lends first, and the number of items that are left after it.
-fn first_item<T: Portable>(table: Seal<'_, ArchivedHashTable<T>>) -> Option<(usize, usize)>
-    requires { HasValue (table T.shape) T.knows table.bytes.now table.pos }
+fn first_item<T: Portable>(of: Seal<'_, ArchivedHashTable<T>>) -> Option<(usize, usize)>
+    requires { HasValue (table T.shape) T.knows of.bytes.now of.pos }
 {
-    let mut items = ArchivedHashTable::raw_iter_seal(table);
+    let mut items = ArchivedHashTable::raw_iter_seal(of);
     let at = match items.next() {
         Some(item) => item.pos(),
         None => return None,
@@ -144,8 +144,8 @@ fn cursors_count_the_items_that_are_left(rt: HostRuntime) {
     match root_of::<Entries>(rt.alloc(), &THREE) {
         Ok(root) => {
             let pos = root.pos();
-            let table = Seal::<Entries>::new(&mut bytes, pos);
-            assert!(rt; first_item(table) == Some((48, 2)));
+            let entries = Seal::<Entries>::new(&mut bytes, pos);
+            assert!(rt; first_item(entries) == Some((48, 2)));
         }
         Err(_) => assert!(rt; false),
     }

@@ -1,5 +1,5 @@
 -- What an audit finds of a container, from what it finds of the nodes in it.
-use Rattle.std.proofs.Common.{MatchResult, ◌≡◌, ◌∙◌, ℕ, zero, suc, ◌+◌, ◌*◌, ◌<◌, ◌≤◌, Bool, Bor, true, false, nat_lt, List, [], ◌∷◌, ◌++◌, length, get_or, take, drop, max, slice_index, map, Result, Ok, Err, inl, inr, refl, sym, ap, ap₂, subst, arith, append-nil, append_assoc, lt-ltb, le-ltb}
+use Rattle.std.proofs.Common.{MatchResult, ◌≡◌, ◌∙◌, ℕ, zero, suc, ◌+◌, ◌*◌, ◌<◌, ◌≤◌, Bor, true, false, nat_lt, List, [], ◌∷◌, ◌++◌, length, get_or, take, drop, max, slice_index, map, Result, Ok, Err, inl, inr, refl, sym, ap, ap₂, subst, arith, append-nil, append_assoc, lt-ltb, le-ltb}
 use Rattle.std.specs.Prelude.{⊤, All}
 use Rattle.std.specs.List.{flat_map}
 use Rattle.std.proofs.lemmas.List.Elements.{All-nil, All-cons}
