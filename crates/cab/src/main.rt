@@ -2,9 +2,7 @@
 //! `cab run ARCHIVE` carries out the lines of the standard input in an archive.
 #![tactic(auto)]
 
-use cab_files::{
-    Command, Fault, OutputStream, build, exit_code, fault_line, parse, run_archive, words,
-};
+use cab_files::{Fault, OutputStream, carry_out, exit_code, fault_line, parse, words};
 use std::fs::File;
 use std::io::IsTerminal;
 use std::process::ExitCode;
@@ -14,19 +12,18 @@ use std::rt::{Env, Files};
 const PATH: usize = 2;
 
 /// Carries out the command that the words spell.
-fn carry_out<R: Env + Files<File = File> + Input + Print + AllocGlobal>(rt: &R) -> Result<(), Fault>
+fn carry_out_words<R: Env + Files<File = File> + Input + Print + AllocGlobal>(rt: &R) -> Result<(), Fault>
 where
     R::Reader: IsTerminal,
 {
     match parse(words(rt, PATH)?) {
-        Some(Command::Build { text, archive }) => build(rt, text, archive),
-        Some(Command::Run { archive }) => run_archive(rt, archive),
+        Some(command) => carry_out(rt, command),
         None => Err(Fault::Usage),
     }
 }
 
 fn main(rt: HostRuntime) -> ExitCode {
-    let outcome = carry_out(&rt);
+    let outcome = carry_out_words(&rt);
     if let Err(fault) = &outcome {
         // If the standard error takes no line, only the status reports the fault.
         let _ = fault_line(fault, &mut OutputStream::new(rt.stderr(), false));

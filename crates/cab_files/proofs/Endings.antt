@@ -1,5 +1,5 @@
 -- How a run in an archive file ends.
-use Rattle.std.proofs.Common.{◌≡◌, ℕ, ◌<◌, Bool, true, false, suc, zero, List, Ok, Err, refl, sym, subst, arith}
+use Rattle.std.proofs.Common.{◌≡◌, ℕ, ◌+◌, ◌<◌, ◌≤◌, Bool, true, false, suc, zero, List, Ok, Err, refl, sym, subst, arith}
 use Rattle.std.specs.Prelude.{String, Result, MatchResult}
 use Rattle.std.specs.declared.alloc.Global.{Global}
 use Rattle.std.specs.Coded.{Coded-set, coded_list, coded_ℕ}
@@ -8,9 +8,12 @@ use Rattle.cabinet_text_grammar.specs.Tree.{Tree}
 use Rattle.cabinet_documents.specs.Accepted.{Accepted}
 use Rattle.cabinet.specs.Calls.{EditedByRun}
 use Rattle.cabinet.specs.Editing.{EditedByLines}
+use Rattle.cabinet.specs.Failures.{WriterFails}
 use Rattle.cabinet.proofs.SessionLaws.{unedited_bytes_stay}
 use Rattle.cabinet.specs.declared.fault.Fault.{Fault}
 use Rattle.cabinet.specs.declared.session.Count.{Count}
+use Rattle.cabinet.specs.declared.session.RunCause.{RunCause}
+use Rattle.cabinet.specs.declared.session.RunCause.TheVariants.{Read, Write, OutOfMemory, LineTooLong, InputTooLong}
 use Rattle.cabinet.specs.declared.session.RunFault.{RunFault}
 use Rattle.cab_files.specs.Ending.{IsFlushed, IsFirstFault, IsArchive, EditsArchive}
 
@@ -29,6 +32,19 @@ pub unedited : (old new : List ℕ) (r : Result Count RunFault) → ∥ ((t : Tr
     → MatchResult r (λ n. n.edits ≡ 0 → new ≡ old) (λ f. f.edits ≡ 0 → new ≡ old)
 unedited old new (Ok n) a e = stays old new n.lines n.edits a e
 unedited old new (Err f) a e = stays old new f.lines f.edits a e
+
+-- a run ends at the first write that fails
+one_by_cause : (counts : Bool) (cause : RunCause) (early late : ℕ) → WriterFails counts cause early late → late ≤ early + 1
+one_by_cause true Write early late h = omega (arith, h)
+one_by_cause false Write early late h = omega (arith, h)
+one_by_cause counts Read early late h = omega (arith, h)
+one_by_cause counts OutOfMemory early late h = omega (arith, h)
+one_by_cause counts LineTooLong early late h = omega (arith, h)
+one_by_cause counts InputTooLong early late h = omega (arith, h)
+
+pub one_failure : (counts : Bool) (r : Result Count RunFault) (early late : ℕ) → MatchResult r (λ _. late ≡ early) (λ f. WriterFails counts f.cause early late) → late ≤ early + 1
+one_failure counts (Ok n) early late h = omega (arith, h)
+one_failure counts (Err f) early late h = one_by_cause counts f.cause early late h
 
 some_edit : (edits done : ℕ) (kept : Bool) → edits ≡ done → kept ≡ false → (edits ≡ 0 → kept ≡ true) → 0 < done
 some_edit edits zero kept same lost h = let k : kept ≡ true = h same in absurd (cc)

@@ -1,9 +1,20 @@
 -- How showing an archive ends, and the lines that report why.
-use Rattle.std.specs.Prelude.{◌≡◌, ℕ, ◌<◌, List, String, string_bytes, string_len, codes}
+use Rattle.std.specs.Prelude.{◌≡◌, ℕ, ◌<◌, Bool, true, false, List, length, Option, Result, MatchResult, String, string_bytes, string_len, codes}
 use Rattle.std.specs.declared.alloc.Global.{Global}
+use Rattle.archive_shape_layout.specs.Writing.{WriterMembers, Writes}
+use Rattle.archive_shape_layout.specs.declared.error.Error.{Error}
+use Rattle.cabinet_archives.specs.MapLaws.{RootMaps}
+use Rattle.cabinet_archives.specs.MapLines.{spelled_map}
+use Rattle.cabinet_archives.specs.Mapping.{Listed}
 use Rattle.cabinet_archives.specs.Refused.{refusal_of}
+use Rattle.cabinet_archives.specs.declared.opening.refusal.OpenRefusal.{OpenRefusal}
+use Rattle.cabinet_documents.specs.Accepted.{Accepted}
 use Rattle.cabinet_documents.specs.Audit.{IsRefusedFor}
+use Rattle.cabinet_text_grammar.specs.Tree.{Tree}
+use Rattle.cabinet.specs.Calls.{WritesDocument}
 use Rattle.cabinet.specs.Reporting.{spelled_fault}
+use Rattle.cab_files.specs.declared.showing.archive.View.{View}
+use Rattle.cab_files.specs.declared.showing.archive.View.TheVariants as view
 use Rattle.cabinet.specs.declared.fault.Fault.{Fault}
 use Rattle.cabinet.specs.declared.fault.Fault.TheVariants.{Usage, CannotRead, CannotWrite, Open}
 
@@ -13,6 +24,26 @@ EndsShowBy path (CannotRead other) = other ≡ path
 EndsShowBy path (Open refusal) = (bytes : List ℕ) × IsRefusedFor bytes (refusal_of refusal)
 EndsShowBy path (CannotWrite other) = 0 < string_len path → string_bytes other ≡ codes "-"
 EndsShowBy path _ = ⊥
+
+-- the map of the regions of an archive is written, and nothing where the bytes are refused
+abbrev pub WritesMap : {W A : Type 0} → WriterMembers W → (bytes : List ℕ) (lines characters : Option ℕ) (early late : W)
+    → Result (Result A Error) OpenRefusal → Type 0
+WritesMap w bytes lines characters early late result =
+    MatchResult result
+    (λ written. ((t : Tree) × Accepted bytes t) × ((listed : List Listed) × RootMaps bytes listed
+    × Writes w early late (spelled_map (length bytes) lines characters listed) written))
+    (λ refusal. IsRefusedFor bytes (refusal_of refusal) × (late ≡ early))
+
+-- the text of an archive's document is written, or its map
+abbrev pub WritesView : {W A : Type 0} → WriterMembers W → (bytes : List ℕ) → View → (early late : W) → Result (Result A Error) OpenRefusal
+    → Type 0
+WritesView w bytes view.Text early late result = WritesDocument w bytes early late result
+WritesView w bytes (view.Map lines characters) early late result = WritesMap w bytes lines characters early late result
+
+-- the number of writes that failed, by whether all was written: writing ends at the first
+abbrev pub failed_writes : (whole : Bool) → ℕ
+failed_writes true = 0
+failed_writes false = 1
 
 -- the usage of this program, and for every other fault the line of `cab`
 abbrev pub spelled_report : Fault → List ℕ

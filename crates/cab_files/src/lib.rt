@@ -4,6 +4,7 @@
 mod arguments;
 mod beside;
 mod building;
+mod carrying;
 mod command;
 mod ending;
 mod input;
@@ -15,10 +16,9 @@ mod running;
 mod showing;
 
 pub use arguments::words;
-pub use building::build;
 pub use cabinet::{Fault, fault_line};
+pub use carrying::carry_out;
 pub use command::{Command, parse};
 pub use ending::exit_code;
 pub use output::OutputStream;
-pub use running::run_archive;
 pub use showing::{ShowCommand, map_archive, parse_show, report, show_archive};

@@ -1,13 +1,6 @@
 //! The map of an archive file's bytes.
-ghost use Rattle.std.specs.Prelude.{◌≡◌, ◌-◌, ◌^◌, ◌<◌, List, length, MatchResult};
-ghost use Rattle.archive_shape_layout.specs.Writing.{Writes};
-ghost use Rattle.cabinet_archives.specs.MapLaws.{RootMaps};
-ghost use Rattle.cabinet_archives.specs.MapLines.{spelled_map};
-ghost use Rattle.cabinet_archives.specs.Mapping.{Listed};
-ghost use Rattle.cabinet_archives.specs.Refused.{refusal_of};
-ghost use Rattle.cabinet_documents.specs.Accepted.{Accepted};
-ghost use Rattle.cabinet_documents.specs.Audit.{IsRefusedFor};
-ghost use Rattle.cabinet_text_grammar.specs.Tree.{Tree};
+ghost use Rattle.std.specs.Prelude.{◌-◌, ◌^◌, ◌<◌};
+ghost use Rattle.cab_files.specs.Showing.{WritesMap};
 
 use archive_shape_layout::{Error, Writer};
 use cabinet::{OpenRefusal, check};
@@ -24,10 +17,7 @@ pub fn write_checked_map<W: Writer>(
     writer: &mut W,
 ) -> Result<Result<(), Error>, OpenRefusal>
     requires { W.failures writer.old < 2 ^ 64 - 1 }
-    ensures { MatchResult result
-        (λ written. ((t : Tree) × Accepted archive.now t) × ((listed : List Listed) → RootMaps archive.now listed
-        → Writes W.Writer writer.old writer.new (spelled_map (length archive.now) lines characters listed) written))
-        (λ refusal. IsRefusedFor archive.now (refusal_of refusal) × (writer.new ≡ writer.old)) }
+    ensures { WritesMap W.Writer archive.now lines characters writer.old writer.new result }
 {
     match check(alloc, archive) {
         Ok(()) => Ok(write_map(archive, lines, characters, writer)),

@@ -1,5 +1,5 @@
 //! The standard output and error as writers of lines, whose bytes are not known, so that contracts cannot name them.
-ghost use Rattle.std.specs.Prelude.{◌≡◌, ◌+◌, ◌-◌, ◌^◌, ◌<◌, false, true, []};
+ghost use Rattle.std.specs.Prelude.{◌≡◌, ◌+◌, ◌-◌, ◌^◌, ◌<◌, false, true, [], OnOk, OnErr};
 ghost use Rattle.archive_shape_layout.specs.Progress.Progress.{unmet};
 
 use archive_shape_layout::{Error, Positional, Registry, Writer};
@@ -54,8 +54,15 @@ impl<W: Write + Drop> OutputStream<W> {
     }
 
     /// Writes the bytes that a buffer of the stream still holds.
-    pub fn flush(&mut self) -> io::Result<()> {
-        self.stream.flush()
+    pub fn flush(&mut self) -> Result<(), Error>
+        requires { self.old.failures < 2 ^ 64 - 1 }
+        ensures quiet { OnOk result (self.new.failures ≡ self.old.failures) }
+        ensures counted { OnErr result (self.new.failures ≡ self.old.failures + 1) }
+    {
+        match self.stream.flush() {
+            Ok(()) => Ok(()),
+            Err(_) => Err(self.failed(Error::WriterFailed)),
+        }
     }
 }
 

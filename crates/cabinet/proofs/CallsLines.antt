@@ -6,10 +6,11 @@ use Rattle.cabinet_text_grammar.specs.Path.{Step}
 use Rattle.cabinet_text_grammar.specs.Line.{Line, get, keys, range, set, Says}
 use Rattle.cabinet_text_grammar.specs.Answering.{Answer, answer, change, spelled_answer}
 use Rattle.cabinet_text_nodes.specs.Lines.{IsQuestion}
+use Rattle.cabinet_text_reading.specs.Reading.{TakesMemory}
 use Rattle.cabinet_documents.specs.Accepted.{Accepted}
 use Rattle.cabinet.specs.Editing.{Edited}
 use Rattle.cabinet.specs.Buffers.{Gives, GivesNothing}
-use Rattle.cabinet.specs.ByteCalls.{Answers, Asks, answers, CarriesOut, Sets, carries_out, out_of_memory}
+use Rattle.cabinet.specs.ByteCalls.{Answers, AskTakesMemory, Asks, answers, CarriesOut, Sets, carries_out, out_of_memory}
 use Rattle.cabinet.specs.Codes.{status_of_answer}
 use Rattle.cabinet.specs.declared.calls.status.Status.{Status}
 use Rattle.cabinet.specs.declared.calls.status.Status.TheVariants.{Bad}
@@ -54,6 +55,19 @@ pub asks_edit : (archive line old new : List ℕ) (count : ℕ) (told : Status) 
     → Asks archive line old new count told
 asks_edit archive line old new count told q is says nothing bad = answers (Some q) says (λ t a. edit_answers t q old new count told is nothing bad)
 
+-- an answer takes memory, and so does a line that is read with some
+pub question_takes : (q : Line) → IsQuestion q → AskTakesMemory q
+question_takes (get path) is = tt
+question_takes (keys path) is = tt
+question_takes (range low high path) is = tt
+question_takes (set path l) is = absurd is
+
+pub read_takes : (q : Line) → TakesMemory q → AskTakesMemory q
+read_takes (get path) takes = tt
+read_takes (keys path) takes = tt
+read_takes (range low high path) takes = tt
+read_takes (set path l) takes = takes
+
 -- ---- carried out
 
 pub sets_edit : (line x y : List ℕ) (told : Status) (path : List Step) (l : Leaf) (r : Answer) → Says line (Some (set path l)) → told ≡ status_of_answer r
@@ -87,4 +101,4 @@ sets_keeps line x y told (carries_out (Some (get path)) says h) k = stays x y h.
 sets_keeps line x y told (carries_out (Some (keys path)) says h) k = stays x y h.0 k
 sets_keeps line x y told (carries_out (Some (range low high path)) says h) k = stays x y h.0 k
 sets_keeps line x y told (carries_out (Some (set path l)) says h) k = ∥∥₁_map k (λ p. (change p.0 path l, h.0.document p.0 p.1))
-sets_keeps line x y told (out_of_memory said says same e) k = stays x y same k
+sets_keeps line x y told (out_of_memory said says takes same e) k = stays x y same k

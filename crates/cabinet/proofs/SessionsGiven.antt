@@ -1,10 +1,15 @@
 -- The bytes that were given of an input, and the lines in them.
-use Rattle.std.proofs.Common.{◌≡◌, ℕ, ◌+◌, ◌-◌, ◌<◌, ◌==◌, suc, zero, Bool, true, false, cond, List, [], ◌∷◌, ◌++◌, length, take, drop, refl, sym, ap, ◌∙◌, append_assoc, append-nil, length-append, length-drop, arith, eqb-true, Some, None, get_or}
+use Rattle.std.proofs.Common.{◌≡◌, ◌≢◌, ℕ, ◌+◌, ◌-◌, ◌<◌, ◌==◌, suc, zero, Bool, true, false, cond, List, [], ◌∷◌, ◌++◌, length, take, drop, refl, sym, ap, ◌∙◌, append_assoc, append-nil, length-append, length-drop, arith, codes, lit<, eqb-true, Some, None, get_or}
 use Rattle.std.proofs.lemmas.List.{take-append-drop, take_all, drop_more}
 use Rattle.std.proofs.lemmas.List.Quantifiers.{position-Some}
 use Rattle.std.proofs.lemmas.List.Sums.{sum_by-cons, sum_by-append, sum_by_push}
 use Rattle.std.specs.List.{position}
 use Rattle.cabinet_text_bytes.proofs.Positions.{position-None}
+use Rattle.cabinet_text_grammar.specs.Line.{Line, get, keys, range, set, spelled_path, spelling}
+use Rattle.cabinet_text_grammar.specs.Path.{key}
+use Rattle.cabinet_text_grammar.specs.Spelling.{spelled_leaf}
+use Rattle.cabinet_text_nodes.specs.declared.line.LineRefusal.TheVariants.{OutOfMemory}
+use Rattle.cabinet_text_reading.specs.Reading.{RefusesLine}
 use Rattle.cabinet.specs.Session.{lines_of, onto_first}
 use Rattle.cabinet.specs.Steps.{newlines, line_begun, begun_in}
 
@@ -59,18 +64,24 @@ lines_begun : (b rest : List ℕ) → newlines b ≡ 0 → lines_of (b ++ 10 ∷
 lines_begun [] rest h = refl
 lines_begun (c ∷ cs) rest h = let d = clean c cs h in rw d.0 (ap (onto_first c) (lines_begun cs rest d.1))
 
--- bytes have a line
-onto_some : (b : ℕ) (lines : List (List ℕ)) → 0 < length (onto_first b lines)
-onto_some b [] = omega arith
-onto_some b (line ∷ lines) = omega arith
+-- the first line of bytes
+pub record FirstLine (bytes : List ℕ) : Type 0 where
+  pub line : List ℕ
+  pub later : List (List ℕ)
+  pub is : lines_of bytes ≡ line ∷ later
+  pub some : line ≢ []
 
-pub some_lines : (bytes : List ℕ) → 0 < length bytes → 0 < length (lines_of bytes)
-some_lines [] l = absurd (omega arith)
-some_lines (b ∷ bs) l =
-    elim (b == 10) as (λ t. 0 < length (cond t ([] ∷ lines_of bs) (onto_first b (lines_of bs)))) [
-      | true ↦ omega arith
-      | false ↦ onto_some b (lines_of bs)
-    ]
+onto_some : (b : ℕ) (lines : List (List ℕ)) → (line : List ℕ) × (later : List (List ℕ)) × (onto_first b lines ≡ line ∷ later) × (line ≢ [])
+onto_some b [] = (b ∷ [], [], refl, λ none. absurd (cc))
+onto_some b (line ∷ lines) = (b ∷ line, lines, refl, λ none. absurd (cc))
+
+-- if no newline is the first of them, that line has bytes
+pub first_line : (bytes more : List ℕ) → newlines bytes ≡ 0 → 0 < length bytes → FirstLine (bytes ++ more)
+first_line [] more h l = absurd (omega arith)
+first_line (b ∷ bs) more h l =
+    let c = clean b bs h in
+    let o = onto_some b (lines_of (bs ++ more)) in
+    record { line = o.0; later = o.1; is = rw c.0 o.2; some = o.3 }
 
 -- a last line needs no newline
 pub line_alone : (b : List ℕ) → newlines b ≡ 0 → 0 < length b → lines_of b ≡ b ∷ []
@@ -109,6 +120,20 @@ pub next_line : (given rest more : List ℕ) → newlines rest ≡ 0 → drop (n
 next_line given rest more h =
     let c : newlines (begun_in given ++ rest) ≡ 0 = omega (arith, newlines-append (begun_in given) rest, begun_clean [] given refl) in
     lines_behind given (rest ++ 10 ∷ more) ∙ ap lines_of (sym (append_assoc (begun_in given) rest (10 ∷ more))) ∙ lines_begun (begun_in given ++ rest) more c
+
+-- a line has bytes
+front_some : (front rest : List ℕ) → 0 < length front → front ++ rest ≢ []
+front_some [] rest some = absurd (omega arith)
+front_some (b ∷ bs) rest some = λ none. absurd (cc)
+
+spelled_some : (line : Line) → spelling line ≢ []
+spelled_some (get path) = front_some (codes "get") (spelled_path path) (lit< tt)
+spelled_some (keys path) = front_some (codes "keys") (spelled_path path) (lit< tt)
+spelled_some (range low high path) = front_some (codes "range") (spelled_path (key low ∷ key high ∷ path)) (lit< tt)
+spelled_some (set path l) = front_some (codes "set ") (spelled_leaf l ++ spelled_path path) (lit< tt)
+
+pub refused_some : (bytes : List ℕ) → RefusesLine bytes OutOfMemory → bytes ≢ []
+refused_some bytes refused = λ none. absurd (spelled_some refused.0 (sym refused.1.1 ∙ none))
 
 -- ---- the first newline
 

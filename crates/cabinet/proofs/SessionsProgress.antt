@@ -8,7 +8,7 @@ use Rattle.cabinet.specs.declared.session.RunCause.{RunCause}
 use Rattle.cabinet.specs.Editing.{EditedByLines}
 use Rattle.cabinet.specs.Progress.{Progress}
 use Rattle.cabinet.proofs.Sessions.{none_carried, none_edited, say_length}
-use Rattle.cabinet.proofs.SessionsGiven.{newlines-append, line_begun-append, line_begun-clean, begun_clean, some_lines, line_alone, lines_behind, next_line}
+use Rattle.cabinet.proofs.SessionsGiven.{newlines-append, line_begun-append, line_begun-clean, begun_clean, FirstLine, first_line, line_alone, lines_behind, next_line}
 
 pub begins : (input x old : List ℕ) → Progress input x x old old 0 0 [] 0 input
 begins input x old = record { carried = none_carried input x old; given = []; input_is = refl; total_is = refl; lines_are = refl; begun_is = refl }
@@ -39,15 +39,20 @@ module _ (input x y old new : List ℕ) (lines edited : ℕ) (begun : List ℕ) 
       ap (λ n. drop n (lines_of input)) p.lines_are ∙ ap (λ i. drop (newlines p.given) (lines_of i)) p.input_is
       ∙ lines_behind p.given [] ∙ ap (λ b. lines_of (b ++ [])) (sym p.begun_is ∙ e)
 
-  -- a line is left where bytes are
-  pub line_left : (rest : List ℕ) → Progress input x y old new lines edited begun total rest → 0 < length rest → IsMemoryRefused input lines
-  line_left rest p l =
-      let left : drop lines (lines_of input) ≡ lines_of (begun_in p.given ++ rest) =
-      ap (λ n. drop n (lines_of input)) p.lines_are ∙ ap (λ i. drop (newlines p.given) (lines_of i)) p.input_is
-      ∙ lines_behind p.given rest
-      in
-      let some = some_lines (begun_in p.given ++ rest) (omega (arith, length-append (begun_in p.given) rest)) in
-      omega (arith, length-drop lines (lines_of input), ap length left, some)
+  -- the line begun is left, which bytes lengthen
+  pub line_left : (bytes more : List ℕ) → Progress input x y old new lines edited begun total (bytes ++ more) → newlines bytes ≡ 0 → 0 < length bytes → IsMemoryRefused input lines
+  line_left bytes more p clean some =
+      by (first_line (begun_in p.given ++ bytes) more (omega (arith, newlines-append (begun_in p.given) bytes, begun_clean [] p.given refl, clean)) (omega (arith, length-append (begun_in p.given) bytes, some)))
+    where
+      by : FirstLine ((begun_in p.given ++ bytes) ++ more) → IsMemoryRefused input lines
+      by first = record {
+        line = first.line;
+        later = first.later;
+        left =
+            ap (λ n. drop n (lines_of input)) p.lines_are ∙ ap (λ i. drop (newlines p.given) (lines_of i)) p.input_is
+            ∙ lines_behind p.given (bytes ++ more) ∙ ap lines_of (sym (append_assoc (begun_in p.given) bytes more)) ∙ first.is;
+        some = first.some;
+      }
 
   -- ---- more of the input
 
@@ -177,5 +182,5 @@ pub faulted_along : (counts : Bool) (input left x y old new : List ℕ) (lines e
 faulted_along counts input left x y old new lines edited cause lines' edited' cause' l e c f = rw (l, e, c) f
 
 -- a line that comes next is left
-pub next_left : (input line : List ℕ) (lines : ℕ) (more : List (List ℕ)) → drop lines (lines_of input) ≡ line ∷ more → IsMemoryRefused input lines
-next_left input line lines more e = omega (arith, length-drop lines (lines_of input), ap length e)
+pub next_left : (input line : List ℕ) (lines : ℕ) (more : List (List ℕ)) → drop lines (lines_of input) ≡ line ∷ more → line ≢ [] → IsMemoryRefused input lines
+next_left input line lines more e some = record { line = line; later = more; left = e; some = some }

@@ -1,11 +1,12 @@
 -- What each call leaves of the bytes that it was given, and which status it tells.
-use Rattle.std.specs.Prelude.{◌≡◌, ℕ, List, [], ◌∷◌, Option, Some, None}
+use Rattle.std.specs.Prelude.{◌≡◌, ℕ, List, [], ◌∷◌, Option, Some, None, ⊤}
 use Rattle.cabinet_text_grammar.specs.Tree.{Tree}
 use Rattle.cabinet_text_grammar.specs.Line.{Line, set, Says}
 use Rattle.cabinet_text_grammar.specs.Answering.{answer, spelled_answer}
 use Rattle.cabinet_text_grammar.specs.Spelling.{text_of}
 use Rattle.cabinet_text_grammar.specs.Fault.{FirstFault}
 use Rattle.cabinet_text_grammar.specs.declared.cause.Cause.{Cause}
+use Rattle.cabinet_text_reading.specs.Reading.{TakesMemory}
 use Rattle.cabinet_archives.specs.Saving.{IsPast}
 use Rattle.cabinet_documents.specs.Accepted.{Accepted}
 use Rattle.cabinet_documents.specs.Audit.{Refusal, IsRefusedFor}
@@ -30,7 +31,12 @@ Answers t None old new count told = GivesNothing old new count × (told ≡ Bad)
 Answers t (Some (set path l)) old new count told = GivesNothing old new count × (told ≡ Bad)
 Answers t (Some line) old new count told = Gives (spelled_answer (answer t line)) (status_of_answer (answer t line)) old new count told
 
--- memory is refused only for a line
+-- memory is taken for the answer to a question, and to read an edit that takes some
+abbrev pub AskTakesMemory : Line → Type 0
+AskTakesMemory (set path l) = TakesMemory (set path l)
+AskTakesMemory _ = ⊤
+
+-- memory is refused only for a line that takes some
 pub data Asks (archive line old new : List ℕ) (count : ℕ) (told : Status) : Type 0 where
   answers :
       (said : Option Line)
@@ -40,6 +46,7 @@ pub data Asks (archive line old new : List ℕ) (count : ℕ) (told : Status) : 
   out_of_memory :
       (said : Line)
       → Says line (Some said)
+      → AskTakesMemory said
       → GivesNothing old new count
       → told ≡ OutOfMemory
       → Asks archive line old new count told
@@ -53,10 +60,10 @@ CarriesOut (Some (set path l)) x y told =
     Edited x y (Some (set path l) ∷ []) × ((t : Tree) → Accepted x t → told ≡ status_of_answer (answer t (set path l)))
 CarriesOut _ x y told = (y ≡ x) × (told ≡ Bad)
 
--- memory is refused only for a line
+-- memory is refused only for a line that takes some
 pub data Sets (line x y : List ℕ) (told : Status) : Type 0 where
   carries_out : (said : Option Line) → Says line said → CarriesOut said x y told → Sets line x y told
-  out_of_memory : (said : Line) → Says line (Some said) → y ≡ x → told ≡ OutOfMemory → Sets line x y told
+  out_of_memory : (said : Line) → Says line (Some said) → TakesMemory said → y ≡ x → told ≡ OutOfMemory → Sets line x y told
 
 -- ---- build: the archive of the document t that has the text is given; `line` is that of a fault of the text, or 0
 

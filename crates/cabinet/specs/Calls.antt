@@ -105,6 +105,10 @@ WriterEndsCall w early late result =
 abbrev pub EditedByRun : (old new : List ℕ) → Result Count RunFault → Type 0
 EditedByRun old new result = MatchResult result (λ n. EditedByLines old new n.lines n.edits) (λ f. EditedByLines old new f.lines f.edits)
 
+-- the same of the bytes that a document was saved as
+abbrev pub EditsSaved : Tree → (new : List ℕ) → Result Count RunFault → Type 0
+EditsSaved t new result = (image : List ℕ) × Image t image × EditedByRun image new result
+
 -- the whole input was carried out, if no fault ended the run
 abbrev pub RunsAll : {R W : Type 0} → Ghosts R → WriterMembers W → (reader : R) (old new : List ℕ) (early late : W) → Result Count RunFault
     → Type 0

@@ -1,5 +1,5 @@
 -- What the lines of a session do to the bytes that they work in, and to what is written.
-use Rattle.std.specs.Prelude.{◌≡◌, ℕ, ◌+◌, ◌<◌, ◌≤◌, ◌==◌, if◌then◌else◌, Bool, false, List, [], ◌∷◌, ◌++◌, length, take, count_by, Option, All}
+use Rattle.std.specs.Prelude.{◌≡◌, ◌≢◌, ℕ, ◌+◌, ◌<◌, ◌≤◌, ◌==◌, if◌then◌else◌, Bool, false, List, [], ◌∷◌, ◌++◌, length, take, drop, count_by, Option, All}
 use Rattle.archive_shape_layout.specs.Writing.{Cut}
 use Rattle.cabinet_text_grammar.specs.Tree.{Tree}
 use Rattle.cabinet_text_grammar.specs.Line.{Line}
@@ -54,9 +54,12 @@ line_begun begun (b ∷ bs) = if b == 10 then line_begun [] bs else line_begun (
 abbrev pub begun_in : List ℕ → List ℕ
 begun_in bytes = line_begun [] bytes
 
--- A line is left that was not carried out: an allocation for it failed.
-abbrev pub IsMemoryRefused : List ℕ → ℕ → Type 0
-IsMemoryRefused input lines = lines < length (lines_of input)
+-- The next line was not carried out, and has bytes: an allocation for it failed.
+pub record IsMemoryRefused (input : List ℕ) (lines : ℕ) : Type 0 where
+  pub line : List ℕ
+  pub later : List (List ℕ)
+  pub left : drop lines (lines_of input) ≡ line ∷ later
+  pub some : line ≢ []
 
 -- Each whole line of the bytes that the source gave was carried out.
 pub record IsReadFault (input left : List ℕ) (lines : ℕ) : Type 0 where

@@ -1,8 +1,9 @@
 //! Bytes that are opened as the archive of a document, for questions and edits.
-ghost use Rattle.std.specs.Prelude.{◌≡◌, ◌-◌, ◌^◌, ◌<◌, length, IfOk, IfErr, OnOk};
+ghost use Rattle.std.specs.Prelude.{◌≡◌, ◌-◌, ◌^◌, ◌<◌, length, IfOk, IfErr, OnOk, OnErr};
 ghost use Rattle.archive_shape_layout.specs.Holds.{root_position as position_of_root};
 ghost use Rattle.archive_shape_layout.specs.Content.Part.{at};
 ghost use Rattle.archive_forms_values.specs.Parts.{HasValue};
+ghost use Rattle.cabinet_text_grammar.specs.Memory.{TextTakesMemory};
 ghost use Rattle.cabinet_text_grammar.specs.Tree.{Tree};
 ghost use Rattle.cabinet_text_grammar.specs.Line as line;
 ghost use Rattle.cabinet_documents.specs.Node.{node_shape, KnowsNode};
@@ -111,9 +112,11 @@ impl<'a, G: Scan> Opened<'a, G> {
         cabinet_archives::locate::<G>(self.bytes, path)
     }
 
-    /// Returns the document of the archive, in memory of its own. An `Err` says that an allocation failed.
+    /// Returns the document of the archive, in memory of its own. An `Err` says that an allocation failed. Memory is taken
+    /// only for a document whose text takes some to be read.
     pub fn load(&self, alloc: Global) -> Result<Document, AllocError>
-        ensures { IfOk result (IsLoaded self.now.bytes.now) }
+        ensures document { IfOk result (IsLoaded self.now.bytes.now) }
+        ensures memory { OnErr result ((t : Tree) → Accepted self.now.bytes.now t → TextTakesMemory t) }
     {
         cabinet_archives::load(alloc, self.bytes)
     }

@@ -1,9 +1,9 @@
 //! Working in the bytes of a saved document.
-ghost use Rattle.std.specs.Prelude.{◌≡◌, ◌-◌, ◌^◌, ◌<◌, IsTrue, IfOk, IfErr, OnErr};
+ghost use Rattle.std.specs.Prelude.{◌≡◌, ◌-◌, ◌^◌, ◌<◌, IsTrue, IfOk, IfErr, OnOk, OnErr};
 ghost use Rattle.cabinet_text_grammar.specs.Tree.{Tree};
 ghost use Rattle.cabinet_documents.specs.Accepted.{Accepted};
-ghost use Rattle.cabinet_archives.specs.Saving.{HasNoImageFor};
-ghost use Rattle.cabinet.specs.Calls.{ReaderEndsRun, WriterEndsRun, EditedByRun, RunsAll, RunsToFault};
+ghost use Rattle.cabinet_archives.specs.Saving.{HasNoImageFor, IsWithinLimits};
+ghost use Rattle.cabinet.specs.Calls.{ReaderEndsRun, WriterEndsRun, EditedByRun, EditsSaved, RunsAll, RunsToFault};
 ghost use Rattle.cabinet.specs.Headline.{WorksInPlace};
 
 use crate::opened::Opened;
@@ -59,6 +59,9 @@ pub fn work<R: Source, W: Writer>(
     ensures works { IsTrue R.OBSERVABLE → IsTrue W.OBSERVABLE
         → IfOk result (λ w. WorksInPlace W.COUNTS document.now (R.left reader.old) (R.left reader.new)
         (W.contents writer.old) (W.contents writer.new) w.bytes.items w.outcome) }
+    // Regardless of whether reader and writer are observable.
+    ensures edits { IfOk result (λ w. EditsSaved document.now w.bytes.items w.outcome) }
+    ensures within { OnOk result (IsWithinLimits document.now) }
     ensures reader_fails { IfOk result (λ w. ReaderEndsRun R.Source reader.old reader.new w.outcome) }
     ensures writer_fails { IfOk result (λ w. WriterEndsRun W.Writer writer.old writer.new w.outcome) }
     ensures refused { IfErr result (HasNoImageFor document.now) }

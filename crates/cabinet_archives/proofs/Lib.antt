@@ -28,10 +28,12 @@ mod Leading
 mod LeafPlaces
 mod LeafTags
 mod ListedRegions
+pub mod ListedRegions
 mod Listings
 mod Loaded
 mod LoadedEntries
 mod LoadedMaps
+mod LoadedMemory
 mod LoadedPairs
 mod LoadedRoot
 mod LoadedTexts

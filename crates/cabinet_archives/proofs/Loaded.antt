@@ -61,11 +61,12 @@ module _ (bytes : List ℕ) where
     pub node_of_payload : (is : Tree → Type 0) → OfTree (tagged_value tag) s knows bytes to is → OfDocument bytes pos is
     node_of_payload is of = λ v t h d. let p = tagged.payload v h in of p.payload t p.held (subst (λ x. Denotes x t) p.is d)
 
-  -- what is loaded of a payload is loaded of its node
-  pub passed_on : {pos tag to : ℕ} {s : Shape} {knows : Names → Type 0} (x : Bor (List ℕ)) (r : Result Node AllocError) (is : Node → Tree → Type 0) → x.now ≡ bytes → IsTagged bytes pos tag s knows to
-      → IfOk r (λ n. OfTree (tagged_value tag) s knows x.now to (is n)) → IfOk r (λ n. OfDocument bytes pos (is n))
-  passed_on {tag = tag} {to = to} {s = s} {knows = knows} x (Ok n) is e tagged of = node_of_payload tagged (is n) (subst (λ b. OfTree (tagged_value tag) s knows b to (is n)) e of)
-  passed_on x (Err refused) is e tagged of = tt
+-- what is loaded of a payload is loaded of its node
+pub passed_on : {x y : Bor (List ℕ)} {pos tag to : ℕ} {s : Shape} {knows : Names → Type 0} (r : Result Node AllocError) (is : Node → Tree → Type 0) → x ≡ y → IsTagged y.now pos tag s knows to
+    → IfOk r (λ n. OfTree (tagged_value tag) s knows x.now to (is n)) → IfOk r (λ n. OfDocument y.now pos (is n))
+passed_on {y = y} {tag = tag} {to = to} {s = s} {knows = knows} (Ok n) is e tagged of =
+    node_of_payload y.now tagged (is n) (subst (λ (b : Bor (List ℕ)). OfTree (tagged_value tag) s knows b.now to (is n)) e of)
+passed_on (Err refused) is e tagged of = tt
 
 -- a leaf and a shared text have no wholes
 pub loaded_leaf : {table : List Tree} (n : Node) {l : Leaf} {t : Tree} → node_tree table n ≡ leaf l → leaf l ≡ t → (node_tree table n ≡ t) × (table ≡ with_wholes table t)

@@ -1,5 +1,5 @@
 -- The pairs of a map that are loaded one after the other, and those that are left.
-use Rattle.std.proofs.Common.{◌≡◌, ◌∙◌, ℕ, Global, String, string_bytes, List, [], ◌∷◌, ◌++◌, refl, sym, ap, subst, append-nil}
+use Rattle.std.proofs.Common.{◌≡◌, ◌∙◌, ℕ, ◌+◌, ◌<◌, Bor, length, get_or, drop, drop-cons, add-one, Global, String, string_bytes, List, [], ◌∷◌, ◌++◌, refl, sym, ap, subst, append-nil}
 use Rattle.std.specs.Prelude.{⊤}
 use Rattle.archive_shape_layout.specs.Shape.{Shape}
 use Rattle.archive_shape_layout.specs.Shape.Shape.{text}
@@ -19,6 +19,13 @@ use Rattle.cabinet_archives.specs.Loading.{HasTree, OfTree, LeadTo, AreEntriesOf
 use Rattle.cabinet_archives.specs.declared.loading.wholes.LoadedWholes.{LoadedWholes}
 use Rattle.cabinet_archives.proofs.Added.{IsSorted, added_same}
 use Rattle.cabinet_archives.proofs.LoadedTrees.{Loaded, AreNodesLegal, IsProgress, progress_on, progress_done, trees_by, keys_of, nodes_of, pairs_from, wholes_by_trees}
+
+pub drop_here : {A : Type 0} (xs : List A) (i : ℕ) (d : A) → i < length xs → drop i xs ≡ get_or xs i d ∷ drop (i + 1) xs
+drop_here xs i d less = drop-cons xs i d less ∙ ap (λ j. get_or xs i d ∷ drop j xs) (sym (add-one i))
+
+-- the same bytes and entries, by other names
+pub led : {x y : Bor (List ℕ)} {es fs : List (ℕ × ℕ)} (is : Pairs → Type 0) → x ≡ y → es ≡ fs → ((ps : Pairs) → LeadTo x.now es ps → is ps) → (ps : Pairs) → LeadTo y.now fs ps → is ps
+led {x = x} {fs = fs} is e f of = λ ps lead. of ps (subst (λ gs. LeadTo x.now gs ps) (sym f) (subst (λ (b : Bor (List ℕ)). LeadTo b.now fs ps) (sym e) lead))
 
 module _ (bytes : List ℕ) where
   -- the first of some pairs are these, and entries lead to the rest of them

@@ -1,5 +1,5 @@
 -- The tree of a leaf and of a shared text, and the head of an archived node of each kind.
-use Rattle.std.proofs.Common.{◌≡◌, ℕ, ◌<◌, List, [], ◌∷◌, length, map, refl, sym, ap, ◌∙◌, arith}
+use Rattle.std.proofs.Common.{◌≡◌, ℕ, ◌<◌, Bor, List, [], ◌∷◌, length, map, refl, sym, ap, subst, ◌∙◌, arith}
 use Rattle.std.specs.Prelude.{false, ⊤}
 use Rattle.std.proofs.lemmas.List.{length-map}
 use Rattle.archive_shape_layout.specs.Bytes.{window}
@@ -24,7 +24,7 @@ use Rattle.archive_btree_maps.proofs.Roots.{tree_of_value}
 use Rattle.archive_hash_maps.specs.Tables.{Buckets, full_places, item_position, item_positions, IsTableAt}
 use Rattle.archive_hash_maps.proofs.Read.{table_is_read}
 use Rattle.cabinet_text_grammar.specs.Keys.{MapKind, ordered, hashed, kept}
-use Rattle.cabinet_text_grammar.specs.Tree.{Leaf, Tree, leaf, shared as shared_text, Trees, Pairs, count, pair_count}
+use Rattle.cabinet_text_grammar.specs.Tree.{Leaf, text as text_leaf, Tree, leaf, shared as shared_text, Trees, Pairs, count, pair_count}
 use Rattle.cabinet_text_grammar.specs.Item.{leaf_item, shared_item, none_item, some_item, list_item, map_item, whole_head}
 use Rattle.cabinet_text_grammar.specs.Answering.{head_of}
 use Rattle.cabinet_documents.specs.Node.{node_shape, pair_shape, KnowsNode, whole_shape}
@@ -173,3 +173,8 @@ module _ (bytes : List ℕ) (pos : ℕ) where
 
   pub whole_is_head : (to : ℕ) → IsTagged bytes pos 9 whole_shape KnowsNode to → OfDocument bytes pos (λ t. whole_head ≡ head_of t)
   whole_is_head to tagged = λ v t h d. whole_head_is (tagged.payload v h).is d
+
+-- the tree of a text
+pub text_tree : {x y : Bor (List ℕ)} {pos to : ℕ} (s : List ℕ) → x ≡ y → IsTagged y.now pos 2 text (λ _. ⊤) to → IsText x.now to s → OfDocument y.now pos (λ t. leaf (text_leaf s) ≡ t)
+text_tree {y = y} {pos = pos} {to = to} s e tagged there =
+    leaf_tree y.now pos (text_leaf s) 2 text (λ _. ⊤) to (omega arith) tagged (text_is (λ _. ⊤) y.now to s (subst (λ (b : Bor (List ℕ)). IsText b.now to s) e there))

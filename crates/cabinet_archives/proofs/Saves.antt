@@ -1,21 +1,25 @@
 -- A document whose archive is made in memory, and written whole or in part.
-use Rattle.std.proofs.Common.{◌≡◌, ℕ, Result, ◌+◌, ◌<◌, ◌≤◌, false, Ok, Err, List, [], ◌++◌, length, append-nil, ⊎_elim, inl, refl, sym, ap, subst, ◌∙◌, arith}
+use Rattle.std.proofs.Common.{◌≡◌, ℕ, Result, ◌+◌, ◌<◌, ◌≤◌, false, Ok, Err, List, [], ◌∷◌, ◌++◌, length, append-nil, ⊎_elim, inl, refl, sym, ap, subst, ◌∙◌, arith}
 use Rattle.std.specs.Prelude.{IsTrue}
 use Rattle.archive_shape_layout.specs.declared.error.Error.{Error}
 use Rattle.archive_shape_layout.specs.declared.error.Error.TheVariants.{OutOfMemory}
 use Rattle.archive_shape_layout.specs.Writing.{WriterMembers, Cut, IsCounted}
+use Rattle.archive_shape_canonical.specs.FirstFit.{first_fit}
+use Rattle.archive_shape_canonical.specs.Hash.{text_hash}
 use Rattle.archive_forms_laws.specs.State.{initial}
 use Rattle.archive_forms_laws.specs.Pointers.{box_spelling}
 use Rattle.archive_forms_laws.specs.Serializing.{IsAt, Serializes}
 use Rattle.cabinet_text_grammar.specs.Tree.{Tree}
 use Rattle.cabinet_text_grammar.specs.Wholes.{wholes_of, IsNumbered, IsTable, IsDocument}
 use Rattle.archive_shape_layout.specs.Holds.{root_position}
+use Rattle.archive_forms_laws.proofs.Regions.{region_exact}
 use Rattle.archive_forms_values.proofs.Rooted.{root_held}
 use Rattle.cabinet_documents.specs.Node.{node_shape, node_names, KnowsNode}
 use Rattle.cabinet_documents.specs.Image.{Image}
 use Rattle.cabinet_documents.specs.Spelling.{node_spelling, node_value}
 use Rattle.cabinet_documents.specs.SpellingLaws.{archive_of, ArchiveFits, ArchiveRefused}
 use Rattle.cabinet_documents.proofs.Imaged.{one_image_law}
+use Rattle.cabinet_documents.proofs.Levels.{node_spells_law}
 use Rattle.cabinet_documents.proofs.SpellingDenoted.{value_denotes_law}
 use Rattle.cabinet_documents.proofs.StoredNodes.{refused_is_past_law}
 use Rattle.cabinet_archived.specs.Archived.{archived_as, archived_in, table_in}
@@ -25,7 +29,7 @@ use Rattle.cabinet_text_grammar.proofs.Tables.{document_table, document_numbered
 use Rattle.cabinet_text_nodes.specs.View.{node_tree}
 use Rattle.cabinet_archives.specs.declared.saving.saving.SaveRefusal.{SaveRefusal}
 use Rattle.cabinet_archives.specs.declared.saving.saving.SaveRefusal.TheVariants as refusal
-use Rattle.cabinet_archives.specs.Saving.{IsPast, HasNoImageFor, LosesImage, IsUnsavedFor}
+use Rattle.cabinet_archives.specs.Saving.{IsPast, IsWithinLimits, HasNoImageFor, LosesImage, IsUnsavedFor}
 
 -- what is written of a document's root beside its wholes is written of the document
 pub as_document : {S : Type 0} (m : WriterMembers S) (x : NodeIn) (t : Tree) (old new : S) (result : Result ℕ Error)
@@ -52,6 +56,10 @@ module _ {S : Type 0} (m : WriterMembers S) (t : Tree) (old new : S) (at : IsAt 
   archive_made pos bytes tells none is h =
       let o = h initial at in
       (o.1.1, sym is ∙ o.0.gains tells ∙ ap (λ l. l ++ archive_of t) none)
+
+  -- what was written exceeds no limit
+  pub archive_fits : (pos : ℕ) → Serializes (box_spelling node_shape (node_spelling (wholes_of t))) m t old new (Ok pos) → ArchiveFits t
+  archive_fits pos h = (h initial at).1.1
 
   -- a writer that counts no failures failed only because an allocation failed
   pub archive_past :
@@ -98,3 +106,11 @@ pub past_of : (t : Tree) (e : Error) → IsDocument t → ArchiveRefused t e →
 past_of t e document h =
     let of_value = value_denotes_law t document in
     (node_value t, of_value.0, of_value.1, (refused_is_past_law t (node_value t) e document of_value.0 of_value.1).0 h)
+
+-- what fits exceeds no limit
+pub none_past : (t : Tree) → IsDocument t → ArchiveFits t → IsWithinLimits t
+none_past t document fits e past =
+    let fit = first_fit text_hash in
+    let table = wholes_of t in
+    region_exact fit node_shape KnowsNode (node_spelling table) (t ∷ []) (node_spells_law table fit t, tt) initial e fits
+    ((refused_is_past_law t past.0 e document past.1 past.2).1 past.3)

@@ -19,6 +19,10 @@ use Rattle.cabinet_archives.specs.declared.saving.saving.SaveRefusal.TheVariants
 abbrev pub IsPast : Tree → Error → Type 0
 IsPast t e = (v : Value) × Denotes v t × IsFitted v × PastLimits (first_fit text_hash) node_names node_shape v e
 
+-- nothing in a document exceeds what archives can hold
+abbrev pub IsWithinLimits : Tree → Type 0
+IsWithinLimits t = (e : Error) → IsPast t e → ⊥
+
 -- why a document has no image in memory: something in it exceeds what archives can hold, or an allocation failed
 abbrev pub HasNoImageFor : Tree → SaveRefusal → Type 0
 HasNoImageFor t (Limit e) = IsPast t e

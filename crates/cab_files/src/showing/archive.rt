@@ -1,8 +1,8 @@
 //! Printing the text of an archive's document, or a map of the archive.
-ghost use Rattle.std.specs.Prelude.{◌-◌, ◌^◌, ◌<◌, IfErr};
+ghost use Rattle.std.specs.Prelude.{◌≡◌, ◌+◌, ◌-◌, ◌^◌, ◌<◌, IfOk, IfErr};
 ghost use Rattle.cabinet_archives.specs.Refused.{refusal_of};
 ghost use Rattle.cabinet_documents.specs.Audit.{IsRefusedFor};
-ghost use Rattle.cab_files.specs.Showing.{EndsShowBy};
+ghost use Rattle.cab_files.specs.Showing.{EndsShowBy, WritesView, failed_writes};
 
 use crate::ending::standard_output;
 use crate::mapping::write_checked_map;
@@ -13,7 +13,7 @@ use cabinet::{Fault, OpenRefusal, write_document};
 use std::alloc::Global;
 use std::fs::File;
 use std::io;
-use std::io::BufWriter;
+use std::io::{BufWriter, Write};
 use std::rt::Files;
 
 /// The maximum number of bytes that wait to be written.
@@ -31,7 +31,7 @@ enum View {
     },
 }
 
-/// Writes a view of the bytes, which are an archive.
+/// Writes a view of the bytes, which are an archive. Of bytes that are refused nothing is written.
 fn write_view<W: Writer>(
     alloc: Global,
     archive: &[u8],
@@ -39,13 +39,31 @@ fn write_view<W: Writer>(
     writer: &mut W,
 ) -> Result<Result<(), Error>, OpenRefusal>
     requires { W.failures writer.old < 2 ^ 64 - 1 }
-    ensures { IfErr result (λ refusal. IsRefusedFor archive.now (refusal_of refusal)) }
+    ensures refused { IfErr result (λ refusal. IsRefusedFor archive.now (refusal_of refusal)) }
+    ensures written { WritesView W.Writer archive.now view writer.old writer.new result }
 {
     match view {
         View::Text => write_document(alloc, archive, writer),
         View::Map { lines, characters } => {
             write_checked_map(alloc, archive, lines, characters, writer)
         }
+    }
+}
+
+/// Writes a view of the bytes, which are an archive, and what the stream still holds of it. Returns whether no write failed.
+fn write_all<W: Write + Drop>(
+    alloc: Global,
+    archive: &[u8],
+    view: View,
+    output: &mut OutputStream<W>,
+) -> Result<bool, OpenRefusal>
+    requires { output.old.failures < 2 ^ 64 - 1 }
+    ensures refused { IfErr result (λ refusal. IsRefusedFor archive.now (refusal_of refusal)) }
+    ensures counted { IfOk result (λ whole. output.new.failures ≡ output.old.failures + failed_writes whole) }
+{
+    match write_view(alloc, archive, view, output)? {
+        Ok(()) => Ok(output.flush().is_ok()),
+        Err(_) => Ok(false),
     }
 }
 
@@ -61,9 +79,7 @@ fn print_view<R: Print>(
     let Ok(stream) = BufWriter::with_capacity(alloc, BUFFER, io::writer(rt)) else {
         return Ok(false);
     };
-    let mut output = OutputStream::new(stream, false);
-    let written = write_view(alloc, archive, view, &mut output)?;
-    Ok(written.is_ok() && output.flush().is_ok())
+    write_all(alloc, archive, view, &mut OutputStream::new(stream, false))
 }
 
 /// Prints a view of an archive file.

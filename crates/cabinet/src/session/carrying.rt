@@ -1,5 +1,5 @@
 //! Carrying out and answering the lines of an input.
-ghost use Rattle.std.specs.Prelude.{◌≡◌, ◌≢◌, ◌+◌, ◌-◌, ◌^◌, ◌<◌, ◌≤◌, [], ◌∷◌, length, Some, IfOk, IfErr, OnOk, option_map};
+ghost use Rattle.std.specs.Prelude.{◌≡◌, ◌≢◌, ◌+◌, ◌-◌, ◌^◌, ◌<◌, ◌≤◌, [], ◌∷◌, length, Some, IfOk, IfErr, OnOk, OnErr, option_map};
 ghost use Rattle.cabinet_text_grammar.specs.Tree.{Tree};
 ghost use Rattle.cabinet_text_grammar.specs.Line.{Says};
 ghost use Rattle.cabinet_text_grammar.specs.Answering.{reply};
@@ -8,6 +8,7 @@ ghost use Rattle.cabinet.specs.Session.{one_if_done};
 ghost use Rattle.cabinet_text_nodes.specs.Lines.{IsQuestion};
 ghost use Rattle.cabinet_text_nodes.specs.Outcomes.{outcome_of};
 ghost use Rattle.cabinet_text_nodes.specs.View.{line_of};
+ghost use Rattle.cabinet_text_reading.specs.Reading.{RefusesLine};
 ghost use Rattle.cabinet_archives.specs.Failing.{FailsByWriter};
 ghost use Rattle.cabinet.specs.Editing.{Edited};
 ghost use Rattle.cabinet.specs.Progress.{KeepsEdits};
@@ -24,7 +25,8 @@ use std::alloc::{AllocError, Global};
 
 /// Returns the line that bytes say, or `None` if they are no line.
 fn read_said(alloc: Global, bytes: &[u8]) -> Result<Option<Line>, AllocError>
-    ensures { IfOk result (λ line. Says bytes.now (option_map line_of line)) }
+    ensures said { IfOk result (λ line. Says bytes.now (option_map line_of line)) }
+    ensures memory { OnErr result (RefusesLine bytes.now LineRefusal.OutOfMemory) }
 {
     match read_line(alloc, bytes) {
         Ok(line) => Ok(Some(line)),

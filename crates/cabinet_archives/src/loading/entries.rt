@@ -1,13 +1,14 @@
 //! The entries of a map that is loaded, in the order in which the map of a document has them.
-ghost use Rattle.std.specs.Prelude.{◌≡◌, ℕ, List, IfOk, string_bytes};
+ghost use Rattle.std.specs.Prelude.{◌≡◌, ◌≢◌, ℕ, List, [], IfOk, OnErr, string_bytes};
 ghost use Rattle.cabinet_documents.specs.Denotes.{tagged_value};
 ghost use Rattle.cabinet_text_grammar.specs.Keys as keys;
+ghost use Rattle.cabinet_text_grammar.specs.Memory.{TextTakesMemory};
 ghost use Rattle.cabinet_text_grammar.specs.Tree.{Tree, no_pairs};
 ghost use Rattle.cabinet_text_nodes.specs.View.{node_tree, node_pairs};
 ghost use Rattle.cabinet_archives.specs.Hashed.{table_shape};
 ghost use Rattle.cabinet_archives.specs.Keyed.{knows_pairs};
 ghost use Rattle.cabinet_archives.specs.Kept.{index_shape};
-ghost use Rattle.cabinet_archives.specs.Loading.{AreEntriesOf, HasTree, added, all_added};
+ghost use Rattle.cabinet_archives.specs.Loading.{AreEntriesOf, HasTree, OfTree, added, all_added};
 ghost use Rattle.cabinet_archives.specs.Ordered.{map_shape};
 
 use crate::maps::{HashedMap, KeptMap, OrderedMap};
@@ -26,7 +27,9 @@ pub(crate) fn ordered_entries(
     map: Ref<'_, OrderedMap>,
 ) -> Result<Vec<Entry>, AllocError>
     requires { (outer : ℕ) × HasTree (tagged_value 6) map_shape knows_pairs map.bytes.now map.pos outer }
-    ensures { IfOk result (λ entries. AreEntriesOf keys.ordered (tagged_value 6) map_shape map.entry.bytes.now map.entry.pos entries.items) }
+    ensures entries { IfOk result (λ entries. AreEntriesOf keys.ordered (tagged_value 6) map_shape map.entry.bytes.now map.entry.pos entries.items) }
+    ensures memory { OnErr result (OfTree (tagged_value 6) map_shape knows_pairs
+        map.entry.bytes.now map.entry.pos TextTakesMemory) }
 {
     let mut entries = Vec::new(alloc);
     for (key, node) in OrderedMap::iter(map) {
@@ -38,7 +41,9 @@ pub(crate) fn ordered_entries(
 /// Returns the entries of a kept map.
 pub(crate) fn kept_entries(alloc: Global, map: Ref<'_, KeptMap>) -> Result<Vec<Entry>, AllocError>
     requires { (outer : ℕ) × HasTree (tagged_value 8) index_shape knows_pairs map.bytes.now map.pos outer }
-    ensures { IfOk result (λ entries. AreEntriesOf keys.kept (tagged_value 8) index_shape map.entry.bytes.now map.entry.pos entries.items) }
+    ensures entries { IfOk result (λ entries. AreEntriesOf keys.kept (tagged_value 8) index_shape map.entry.bytes.now map.entry.pos entries.items) }
+    ensures memory { OnErr result (OfTree (tagged_value 8) index_shape knows_pairs
+        map.entry.bytes.now map.entry.pos TextTakesMemory) }
 {
     let mut entries = Vec::new(alloc);
     for (key, node) in KeptMap::iter(map) {
@@ -53,7 +58,9 @@ pub(crate) fn hashed_entries(
     map: Ref<'_, HashedMap>,
 ) -> Result<Vec<Entry>, AllocError>
     requires { (outer : ℕ) × HasTree (tagged_value 7) table_shape knows_pairs map.bytes.now map.pos outer }
-    ensures { IfOk result (λ entries. AreEntriesOf keys.hashed (tagged_value 7) table_shape map.entry.bytes.now map.entry.pos entries.items) }
+    ensures entries { IfOk result (λ entries. AreEntriesOf keys.hashed (tagged_value 7) table_shape map.entry.bytes.now map.entry.pos entries.items) }
+    ensures memory { OnErr result (OfTree (tagged_value 7) table_shape knows_pairs
+        map.entry.bytes.now map.entry.pos TextTakesMemory) }
 {
     let mut sorted = BTreeMap::new(alloc);
     for (key, node) in HashedMap::iter(map) {
@@ -80,8 +87,9 @@ pub(crate) fn into_map(
     alloc: Global,
     pairs: Vec<(String, Node)>,
 ) -> Result<BTreeMap<String, Node>, AllocError>
-    ensures { IfOk result (λ map. (table : List Tree)
+    ensures added { IfOk result (λ map. (table : List Tree)
         → node_pairs table map.entries ≡ all_added (node_pairs table pairs.items) no_pairs) }
+    ensures memory { OnErr result (pairs.items ≢ []) }
 {
     let mut map = BTreeMap::new(alloc);
     for (key, node) in pairs {

@@ -1,9 +1,10 @@
 //! The nodes of archives as nodes of documents.
-ghost use Rattle.std.specs.Prelude.{◌≤◌, IfOk, All};
+ghost use Rattle.std.specs.Prelude.{◌≢◌, ◌≤◌, [], IfOk, OnErr, All};
 ghost use Rattle.archive_shape_layout.specs.Shape.Shape.{option, box, vector};
 ghost use Rattle.archive_shape_layout.specs.Shape.Pointee.{sized};
 ghost use Rattle.cabinet_documents.specs.Denotes.{tagged_value};
 ghost use Rattle.cabinet_documents.specs.Node.{node_shape, whole_shape, KnowsNode};
+ghost use Rattle.cabinet_text_grammar.specs.Memory.{TextTakesMemory};
 ghost use Rattle.cabinet_text_grammar.specs.Tree.{Pairs};
 ghost use Rattle.cabinet_archives.specs.Found.{OfDocument};
 ghost use Rattle.cabinet_archives.specs.Hashed.{table_shape};
@@ -13,7 +14,7 @@ ghost use Rattle.cabinet_archives.specs.Loading.{AreReadOf, AreWholesOf, HasTree
 ghost use Rattle.cabinet_archives.specs.Ordered.{map_shape};
 
 use crate::loading::entries::{Entry, hashed_entries, into_map, kept_entries, ordered_entries};
-use crate::loading::texts::LoadedTexts;
+use crate::loading::texts::{LoadedTexts, copy_of};
 use crate::loading::wholes::LoadedWholes;
 use crate::maps::{HashedMap, KeptMap, OrderedMap};
 use archive_forms_rc::{ArchivedRc, RcFlavor};
@@ -37,6 +38,8 @@ fn load_option(
     requires known { AreWholesOf maybe.bytes.now wholes.old }
     ensures tree { IfOk result (λ node. OfTree (tagged_value 4) (option (box (sized node_shape))) KnowsNode
         maybe.entry.bytes.now maybe.entry.pos (IsLoaded wholes.old wholes.new node)) }
+    ensures memory { OnErr result (OfTree (tagged_value 4) (option (box (sized node_shape))) KnowsNode
+        maybe.entry.bytes.now maybe.entry.pos TextTakesMemory) }
     ensures keeps { IfOk result (λ _. AreReadOf maybe.entry.bytes.now texts.new) }
     ensures knows { IfOk result (λ _. AreWholesOf maybe.entry.bytes.now wholes.new) }
 {
@@ -63,6 +66,8 @@ fn load_list(
     requires known { AreWholesOf list.bytes.now wholes.old }
     ensures tree { IfOk result (λ node. OfTree (tagged_value 5) (vector node_shape) KnowsNode
         list.entry.bytes.now list.entry.pos (IsLoaded wholes.old wholes.new node)) }
+    ensures memory { OnErr result (OfTree (tagged_value 5) (vector node_shape) KnowsNode
+        list.entry.bytes.now list.entry.pos TextTakesMemory) }
     ensures keeps { IfOk result (λ _. AreReadOf list.entry.bytes.now texts.new) }
     ensures knows { IfOk result (λ _. AreWholesOf list.entry.bytes.now wholes.new) }
 {
@@ -92,6 +97,7 @@ fn load_entries(
     requires known { AreWholesOf bytes.now wholes.old }
     ensures pairs { IfOk result (λ pairs. (ps : Pairs) → LeadTo bytes.now entries.now ps
         → ArePairsLoaded wholes.old wholes.new pairs.items ps) }
+    ensures memory { OnErr result (entries.now ≢ []) }
     ensures keeps { IfOk result (λ _. AreReadOf bytes.now texts.new) }
     ensures knows { IfOk result (λ _. AreWholesOf bytes.now wholes.new) }
 {
@@ -120,6 +126,8 @@ fn load_ordered(
     requires known { AreWholesOf map.bytes.now wholes.old }
     ensures tree { IfOk result (λ node. OfTree (tagged_value 6) map_shape knows_pairs
         map.entry.bytes.now map.entry.pos (IsLoaded wholes.old wholes.new node)) }
+    ensures memory { OnErr result (OfTree (tagged_value 6) map_shape knows_pairs
+        map.entry.bytes.now map.entry.pos TextTakesMemory) }
     ensures keeps { IfOk result (λ _. AreReadOf map.entry.bytes.now texts.new) }
     ensures knows { IfOk result (λ _. AreWholesOf map.entry.bytes.now wholes.new) }
 {
@@ -149,6 +157,8 @@ fn load_hashed(
     requires known { AreWholesOf map.bytes.now wholes.old }
     ensures tree { IfOk result (λ node. OfTree (tagged_value 7) table_shape knows_pairs
         map.entry.bytes.now map.entry.pos (IsLoaded wholes.old wholes.new node)) }
+    ensures memory { OnErr result (OfTree (tagged_value 7) table_shape knows_pairs
+        map.entry.bytes.now map.entry.pos TextTakesMemory) }
     ensures keeps { IfOk result (λ _. AreReadOf map.entry.bytes.now texts.new) }
     ensures knows { IfOk result (λ _. AreWholesOf map.entry.bytes.now wholes.new) }
 {
@@ -178,6 +188,8 @@ fn load_kept(
     requires known { AreWholesOf map.bytes.now wholes.old }
     ensures tree { IfOk result (λ node. OfTree (tagged_value 8) index_shape knows_pairs
         map.entry.bytes.now map.entry.pos (IsLoaded wholes.old wholes.new node)) }
+    ensures memory { OnErr result (OfTree (tagged_value 8) index_shape knows_pairs
+        map.entry.bytes.now map.entry.pos TextTakesMemory) }
     ensures keeps { IfOk result (λ _. AreReadOf map.entry.bytes.now texts.new) }
     ensures knows { IfOk result (λ _. AreWholesOf map.entry.bytes.now wholes.new) }
 {
@@ -207,6 +219,8 @@ fn load_whole(
     requires known { AreWholesOf whole.bytes.now wholes.old }
     ensures tree { IfOk result (λ node. OfTree (tagged_value 9) whole_shape KnowsNode
         whole.entry.bytes.now whole.entry.pos (IsLoaded wholes.old wholes.new node)) }
+    ensures memory { OnErr result (OfTree (tagged_value 9) whole_shape KnowsNode
+        whole.entry.bytes.now whole.entry.pos TextTakesMemory) }
     ensures keeps { IfOk result (λ _. AreReadOf whole.entry.bytes.now texts.new) }
     ensures knows { IfOk result (λ _. AreWholesOf whole.entry.bytes.now wholes.new) }
 {
@@ -233,6 +247,7 @@ pub(crate) fn load_node(
     requires kept { AreReadOf node.bytes.now texts.old }
     requires known { AreWholesOf node.bytes.now wholes.old }
     ensures tree { IfOk result (λ loaded. OfDocument node.entry.bytes.now node.entry.pos (IsLoaded wholes.old wholes.new loaded)) }
+    ensures memory { OnErr result (OfDocument node.entry.bytes.now node.entry.pos TextTakesMemory) }
     ensures keeps { IfOk result (λ _. AreReadOf node.entry.bytes.now texts.new) }
     ensures knows { IfOk result (λ _. AreWholesOf node.entry.bytes.now wholes.new) }
 {
@@ -240,7 +255,7 @@ pub(crate) fn load_node(
         ArchivedKind::Bool(value) => Ok(Node::Bool(native_of(value))),
         ArchivedKind::Int(number) => Ok(Node::Int(native_of(number))),
         ArchivedKind::Text(text) => {
-            let text = String::from_str(alloc, ArchivedString::as_str(text))?;
+            let text = copy_of(alloc, ArchivedString::as_str(text))?;
             Ok(Node::Text(text))
         }
         ArchivedKind::Shared(pointer) => Ok(Node::Shared(texts.read(alloc, pointer)?)),

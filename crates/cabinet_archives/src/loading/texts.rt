@@ -1,5 +1,5 @@
-//! The shared texts of an archive that is loaded.
-ghost use Rattle.std.specs.Prelude.{◌≡◌, ℕ, false, List, IfOk, ⊤};
+//! The texts of an archive that is loaded, and those that are shared.
+ghost use Rattle.std.specs.Prelude.{◌≡◌, ◌≢◌, ℕ, false, List, [], IfOk, OnErr, string_bytes, ⊤};
 ghost use Rattle.std.specs.Rc.{rc_str_bytes};
 ghost use Rattle.archive_shape_layout.specs.Bytes.{window};
 ghost use Rattle.archive_shape_layout.specs.Shape.Shape.{shared};
@@ -14,6 +14,17 @@ use cabinet_text_nodes::SharedTexts;
 use std::alloc::{AllocError, Global};
 use std::collections::BTreeMap;
 use std::rc::RcStr;
+
+/// Returns a copy of a text. It takes no memory for one without bytes.
+pub(crate) fn copy_of(alloc: Global, text: &str) -> Result<String, AllocError>
+    ensures copy { IfOk result (λ copy. string_bytes copy ≡ text.now) }
+    ensures memory { OnErr result (text.now ≢ []) }
+{
+    if text.is_empty() {
+        return Ok(String::new(alloc));
+    }
+    String::from_str(alloc, text)
+}
 
 /// The shared texts that were read, by the position and the length of their bytes. So a text to which many pointers lead
 /// is read once, and equal texts at different positions become one.

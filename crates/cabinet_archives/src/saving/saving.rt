@@ -2,7 +2,7 @@
 ghost use Rattle.std.specs.Prelude.{◌≡◌, ◌-◌, ◌^◌, ◌<◌, ℕ, List, IsTrue, IfOk, IfErr, OnOk, OnErr};
 ghost use Rattle.archive_shape_layout.specs.Writing.{Cut};
 ghost use Rattle.cabinet_documents.specs.Image.{Image};
-ghost use Rattle.cabinet_archives.specs.Saving.{HasNoImageFor, Saved, IsUnsavedFor};
+ghost use Rattle.cabinet_archives.specs.Saving.{HasNoImageFor, IsWithinLimits, Saved, IsUnsavedFor};
 
 use archive_core_serializing::Serializer;
 use archive_shape_layout::{Error, Writer};
@@ -28,6 +28,7 @@ pub enum SaveRefusal {
 /// Returns the image of a document, made in memory. Each shared text and each whole is written once.
 pub fn to_bytes(alloc: Global, document: &Document) -> Result<Vec<u8>, SaveRefusal>
     ensures image { IfOk result (λ image. Image document.now image.items) }
+    ensures within { OnOk result (IsWithinLimits document.now) }
     ensures refused { IfErr result (HasNoImageFor document.now) }
 {
     let mut serializer = Serializer::new(Vec::new(alloc), alloc, NodeShare::new(alloc));
@@ -55,6 +56,7 @@ pub fn save<W: Writer>(
     requires room { W.failures writer.old < 2 ^ 64 - 1 }
     ensures saved { OnOk result (IsTrue W.OBSERVABLE
         → Saved document.now (W.contents writer.old) (W.contents writer.new)) }
+    ensures within { OnOk result (IsWithinLimits document.now) }
     ensures quiet { OnOk result (W.failures writer.new ≡ W.failures writer.old) }
     ensures refused { IfErr result (IsUnsavedFor W.Writer document.now writer.old writer.new) }
     // The bytes that the writer took are a prefix of the image.

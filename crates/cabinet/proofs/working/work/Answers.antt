@@ -16,3 +16,10 @@ returns-clause-works g c = λ r w.
     let k : length c.run_in-outcome.new.bytes ≤ c.in-Ok.bytes.len = grind arith in
     rw (whole_back _ _ _ e k)
     (works g.W.Writer.COUNTS c.args.document.now _ _ c.as_mut_slice.result.now _ _ _ i c.run_in-outcome.result (c.run_in-outcome.ensures.all r w) (c.run_in-outcome.ensures.fault r w))
+
+pub returns-clause-edits : goal.returns-clause-edits
+returns-clause-edits g c =
+    let i : Image c.args.document.now c.as_mut_slice.result.now = subst (Image c.args.document.now) (sym c.as_mut_slice.ensures.value) c.in-Ok.ensures.image in
+    let e : length c.run_in-outcome.new.bytes ≡ length c.in-Ok.bytes.items = search rules in
+    let k : length c.run_in-outcome.new.bytes ≤ c.in-Ok.bytes.len = grind arith in
+    rw (whole_back _ _ _ e k) (c.as_mut_slice.result.now, i, c.run_in-outcome.ensures.edits)

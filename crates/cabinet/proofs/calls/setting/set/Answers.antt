@@ -14,7 +14,7 @@ returns-in-Err-Bad c = carries_out None (rw c.in-Err-Bad.field-0-is at c.in-Err-
 pub returns-in-Err-OutOfMemory : goal.returns-in-Err-OutOfMemory
 returns-in-Err-OutOfMemory c =
     let h = rw c.in-Err-OutOfMemory.field-0-is at c.in-Err-OutOfMemory.ensures.refused in
-    out_of_memory h.0 h.1 refl refl
+    out_of_memory h.0 h.1 h.2 refl refl
 
 pub returns-in-Set : goal.returns-in-Set
 returns-in-Set c =

@@ -1,4 +1,4 @@
-use Rattle.std.proofs.Common.{◌≡◌, [], ◌∷◌, ◌++◌, length, ap, sym, ◌∙◌, refl, arith, append_assoc, length-append}
+use Rattle.std.proofs.Common.{◌≡◌, [], ◌∷◌, ◌++◌, ◌<◌, length, ap, sym, ◌∙◌, refl, arith, append_assoc, length-append}
 use Rattle.std.proofs.lemmas.Bool.Decides.{nat_tests}
 use Rattle.std.proofs.lemmas.List.{nil_from_length}
 use Rattle.cabinet.specs.Session.{lines_of}
@@ -25,7 +25,13 @@ returns-then-is_empty-clause-taken g c = λ w h input x old left more q.
     (omega arith))
 
 pub returns-in-Err-clause-taken : goal.returns-in-Err-clause-taken
-returns-in-Err-clause-taken g c = λ w h input x old left more q. memory_refused refl q.carried (progress.line_left _ _ _ _ _ _ _ _ _ _ q (omega (arith, length-append (c.args.rest.now ++ 10 ∷ []) more, length-append c.args.rest.now (10 ∷ []))))
+returns-in-Err-clause-taken g c = λ w h input x old left more q.
+    let p = same_left _ _ _ _ _ _ _ _ _ _ _ (append_assoc c.args.rest.now (10 ∷ []) more) q in
+    let begun = c.args.begun.now.line.items in
+    let some : 0 < length begun = grind (arith, nat_tests, c.args.begun.now.line.ok.0) in
+    memory_refused refl q.carried
+    (progress.next_left input (begun ++ c.args.rest.now) _ (lines_of more) (progress.line_is _ _ _ _ _ _ _ _ _ c.args.rest.now more p h)
+    (λ none. absurd (omega (arith, some, ap length none, length-append begun c.args.rest.now))))
 
 pub returns-clause-taken : goal.returns-clause-taken
 returns-clause-taken g c = λ w h input x old left more q.

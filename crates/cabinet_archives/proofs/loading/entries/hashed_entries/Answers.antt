@@ -1,4 +1,4 @@
-use Rattle.std.proofs.Common.{◌≡◌, ℕ, ◌+◌, ◌++◌, ◌∷◌, [], Bor, List, map, sym, ap, ap₂, subst, ◌∙◌, append-nil, append_assoc}
+use Rattle.std.proofs.Common.{◌≡◌, ◌≢◌, ℕ, ◌+◌, ◌++◌, ◌∷◌, [], Bor, List, map, sym, ap, ap₂, subst, ◌∙◌, append-nil, append_assoc}
 use Rattle.std.specs.Prelude.{⊤, All}
 use Rattle.std.proofs.lemmas.List.Elements.{All-nil, All-head, All-tail}
 use Rattle.archive_shape_layout.specs.Value.Value.{string}
@@ -8,6 +8,7 @@ use Rattle.cabinet_archives.specs.Hashed.{table_shape}
 use Rattle.cabinet_archives.specs.Keyed.{knows_pairs}
 use Rattle.cabinet_archives.specs.Loading.{HasTree, OfTree, IsEntry, LeadTo}
 use Rattle.cabinet_archives.proofs.LoadedEntries.{LoadedPair, Keyed, positions, AreSorting, same_string, one_there, sorting_on, sorting_done}
+use Rattle.cabinet_archives.proofs.LoadedMemory.{on_err, some_left, map_takes, sorting_takes}
 use Rattle.cabinet_archives.proofs.LoadedMaps.{hashed_bytes, hashed_there, hashed_sorting}
 use Rattle.cabinet_archives.proofs.Payloads.{text_has, text_is}
 use Rattle.cabinet_archives.proofs.loading.entries.hashed_entries.Goals as goal
@@ -76,8 +77,8 @@ loop-entry-preserved c =
     ∙ ap (λ es. entries ++ es) (sym c.in-Some-entry.ensures.steps)
     ∙ c.loop-entry.invariant
 
-pub returns : goal.returns
-returns c = λ outer has.
+pub returns-clause-entries : goal.returns-clause-entries
+returns-clause-entries c = λ outer has.
     let bytes = c.args.map.bytes.now in
     let sorted = c.loop-key.sorted.entries in
     let entries = c.loop-entry.entries.items in
@@ -88,3 +89,17 @@ returns c = λ outer has.
           let done = sorting_done bytes sorted (subst (λ es. AreSorting bytes (map positions es) sorted t) c.in-None.ensures.steps.0 (c.loop-key.invariant.sorting v t h d)) in
           (done.0, done.1, subst (λ es. LeadTo bytes es done.0) (sym same) done.2),
     )
+
+pub returns-in_err-insert-clause-memory : goal.returns-in_err-insert-clause-memory
+returns-in_err-insert-clause-memory c = on_err c.from_residual.result (λ v t h d.
+    sorting_takes c.args.map.bytes.now (positions (c.in-Some.key, c.in-Some.node)) (map positions c.next.new.self) c.loop-key.sorted.entries
+    (subst (λ es. AreSorting c.args.map.bytes.now (map positions es) c.loop-key.sorted.entries t) c.in-Some.ensures.steps (c.loop-key.invariant.sorting v t h d)))
+
+pub returns-in_err-push-clause-memory : goal.returns-in_err-push-clause-memory
+returns-in_err-push-clause-memory c =
+    let bytes = c.args.map.bytes.now in
+    let sorted = c.loop-key.sorted.entries in
+    let entries = c.loop-entry.entries.items in
+    let same : entries ++ c.loop-entry.entry-iterator ≡ map (λ (e : Keyed). e.1) sorted = c.loop-entry.invariant ∙ c.into_iter-entry-iterator.ensures.into_iter_gives ∙ c.values-entry-items.ensures.rest in
+    on_err c.from_residual-in_err-push.result (map_takes bytes (map (λ (e : Keyed). e.1) sorted) (subst (λ es. es ≢ []) same (some_left entries c.in-Some-entry.ensures.steps))
+    (λ v t h d. sorting_done bytes sorted (subst (λ es. AreSorting bytes (map positions es) sorted t) c.in-None.ensures.steps.0 (c.loop-key.invariant.sorting v t h d))))

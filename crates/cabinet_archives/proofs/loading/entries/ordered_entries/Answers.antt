@@ -1,6 +1,7 @@
 use Rattle.std.proofs.Common.{◌++◌, map, sym, ap, ◌∙◌, append-nil}
 use Rattle.cabinet_archives.proofs.LoadedEntries.{positions, pushed}
 use Rattle.cabinet_archives.proofs.LoadedMaps.{ordered_are}
+use Rattle.cabinet_archives.proofs.LoadedMemory.{on_err, some_left, map_takes}
 use Rattle.cabinet_archives.proofs.loading.entries.ordered_entries.Goals as goal
 
 pub loop-key-init : goal.loop-key-init
@@ -14,7 +15,13 @@ loop-key-preserved c = λ m stands.
     ∙ ap (λ es. c.loop-key.entries.items ++ map positions es) (sym c.in-Some.ensures.steps)
     ∙ c.loop-key.invariant m stands
 
-pub returns : goal.returns
-returns c = λ outer has.
+pub returns-clause-entries : goal.returns-clause-entries
+returns-clause-entries c = λ outer has.
     ordered_are c.args.map.bytes has c.loop-key.entries.items
     (λ m stands. sym (append-nil c.loop-key.entries.items) ∙ ap (λ es. c.loop-key.entries.items ++ map positions es) (sym c.in-None.ensures.steps.0) ∙ c.loop-key.invariant m stands)
+
+pub returns-in_err-push-clause-memory : goal.returns-in_err-push-clause-memory
+returns-in_err-push-clause-memory c =
+    let all = c.loop-key.entries.items ++ map positions c.loop-key.key-iterator in
+    on_err c.from_residual.result (map_takes c.args.map.bytes.now all (some_left c.loop-key.entries.items (ap (map positions) c.in-Some.ensures.steps))
+    (ordered_are c.args.map.bytes c.requires.1 all c.loop-key.invariant).1)

@@ -8,6 +8,7 @@ returns-in-Err g c =
     let m : WriterMembers g.row.W.Denot = record { known = g.W.Registry.known; pos = g.W.Positional.pos; OBSERVABLE = g.W.Writer.OBSERVABLE; COUNTS = g.W.Writer.COUNTS; contents = g.W.Writer.contents; failures = g.W.Writer.failures; last_error = g.W.Writer.last_error } in
     record {
       saved = tt;
+      within = tt;
       quiet = tt;
       refused = unsaved m c.args.document.now c.args.writer.now c.in-Err.refusal c.in-Err.ensures.refused;
       cut = λ image is_image tells. nothing_cut (g.W.Writer.contents c.args.writer.now) image;

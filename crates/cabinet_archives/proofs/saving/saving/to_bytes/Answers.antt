@@ -9,7 +9,7 @@ use Rattle.cabinet_documents.proofs.Imaged.{written_is_image_law}
 use Rattle.cabinet_archived.specs.declared.node_in.NodeIn.{NodeIn}
 use Rattle.cabinet_archived.specs.declared.sharing.node_share.NodeShare.{NodeShare}
 use Rattle.cabinet_archived.proofs.Registries.{known_by}
-use Rattle.cabinet_archives.proofs.Saves.{as_document, root_in_table, archive_made, archive_past, past_of}
+use Rattle.cabinet_archives.proofs.Saves.{as_document, root_in_table, archive_made, archive_fits, archive_past, past_of, none_past}
 use Rattle.cabinet_archives.proofs.saving.saving.to_bytes.Goals as goal
 
 pub serialize_root-requires-clause-state : goal.serialize_root-requires-clause-state
@@ -34,6 +34,16 @@ returns-in-Ok-clause-image c =
     c.in-Ok.field-0 c.into_writer.result.items refl (ap (λ v. v.items) c.new-serializer.ensures.writer ∙ c.new.ensures.items) (ap (λ v. v.items) (sym c.into_writer.ensures))
     (as_document m root t c.new-serializer.result new (Ok c.in-Ok.field-0) c.wholes.ensures c.root.ensures.tree c.in-Ok.ensures) in
     written_is_image_law t c.into_writer.result.items c.root.ensures.document made.0 made.1
+
+pub returns-in-Ok-clause-within : goal.returns-in-Ok-clause-within
+returns-in-Ok-clause-within c =
+    let m : WriterMembers (Serializer (Vec ℕ Global) Global NodeShare) = record { known = λ s. known_by s.sharing; pos = λ s. vec_len s.writer; OBSERVABLE = true; COUNTS = false; contents = λ s. s.writer.items; failures = λ s. 0; last_error = λ s. OutOfMemory } in
+    let t = c.args.document.now in
+    let root : NodeIn = record { wholes = c.wholes.result; node = c.root.result } in
+    let new = c.serialize_root.new.serializer in
+    none_past t c.root.ensures.document
+    (archive_fits m t c.new-serializer.result new (record { stands = ap (λ v. vec_len v) c.new-serializer.ensures.writer ∙ c.new.ensures.len; knows = λ key. ap (λ (x : NodeShare). known_by x key) c.new-serializer.ensures.sharing ∙ c.new-2.ensures key }) c.in-Ok.field-0
+    (as_document m root t c.new-serializer.result new (Ok c.in-Ok.field-0) c.wholes.ensures c.root.ensures.tree c.in-Ok.ensures))
 
 pub returns-clause-refused : goal.returns-clause-refused
 returns-clause-refused c =

@@ -1,4 +1,4 @@
-use Rattle.std.proofs.Common.{◌++◌, refl, arith, length-append}
+use Rattle.std.proofs.Common.{refl, arith}
 use Rattle.std.proofs.lemmas.Bool.Decides.{nat_tests}
 use Rattle.cabinet.specs.Steps.{line_too_long, memory_refused}
 use Rattle.cabinet.proofs.SessionsProgress as progress
@@ -14,4 +14,4 @@ returns-in-Ok-clause-taken c = λ h counts y new input x old left more p.
 
 pub returns-in-Err-clause-taken : goal.returns-in-Err-clause-taken
 returns-in-Err-clause-taken c = λ h counts y new input x old left more p. memory_refused refl p.carried
-    (progress.line_left _ _ _ _ _ _ _ _ _ (c.args.bytes.now ++ more) p (grind (arith, nat_tests, length-append c.args.bytes.now more)))
+    (progress.line_left _ _ _ _ _ _ _ _ _ c.args.bytes.now more p h (grind (arith, nat_tests)))

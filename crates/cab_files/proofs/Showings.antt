@@ -1,0 +1,20 @@
+-- Whether a write failed while a view of an archive was written.
+use Rattle.std.proofs.Common.{◌≡◌, ℕ, ◌+◌, Bool, true, false, List, Ok, Err}
+use Rattle.std.specs.Prelude.{Result, MatchResult}
+use Rattle.archive_shape_layout.specs.Writing.{WriterMembers, IsCounted}
+use Rattle.archive_shape_layout.specs.declared.error.Error.{Error}
+use Rattle.cab_files.specs.Showing.{WritesView}
+use Rattle.cab_files.specs.declared.showing.archive.View.{View}
+use Rattle.cab_files.specs.declared.showing.archive.View.TheVariants as view
+
+one_more : (counts : Bool) (old new : ℕ) (e : Error) → counts ≡ true → IsCounted counts old new e → new ≡ old + 1
+one_more true old new e is h = h
+one_more false old new e is h = absurd (cc)
+
+pub counted : {W : Type 0} (w : WriterMembers W) (bytes : List ℕ) (v : View) (early late : W) (written : Result (Unit {0}) Error) → w.COUNTS ≡ true
+    → WritesView w bytes v early late (Ok written)
+    → MatchResult written (λ _. w.failures late ≡ w.failures early) (λ _. w.failures late ≡ w.failures early + 1)
+counted w bytes view.Text early late (Ok u) counts h = h.2.is_quiet
+counted w bytes view.Text early late (Err e) counts h = one_more w.COUNTS (w.failures early) (w.failures late) e counts h.2.is_counted
+counted w bytes (view.Map lines characters) early late (Ok u) counts h = h.1.2.is_quiet
+counted w bytes (view.Map lines characters) early late (Err e) counts h = one_more w.COUNTS (w.failures early) (w.failures late) e counts h.1.2.is_counted
