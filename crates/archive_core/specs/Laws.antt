@@ -1,5 +1,5 @@
 -- Laws of whole archives, as statements.
-use Rattle.std.specs.Prelude.{◌≡◌, ◌≢◌, ℕ, ◌<◌, ◌^◌, List, length, Some, false}
+use Rattle.std.specs.Prelude.{◌≡◌, ◌≢◌, ℕ, ◌<◌, ◌^◌, Bool, List, length, Some, IsTrue, false}
 use Rattle.archive_shape_layout.specs.Shape.{Shape}
 use Rattle.archive_shape_layout.specs.Value.{Value}
 use Rattle.archive_shape_layout.specs.Content.{Names}
@@ -58,6 +58,16 @@ module _ {A R : Type 0} (s : Shape) (knows : Names → Type 0) (w : Spelling A R
       → MadeArchive s knows w x bytes
       → IsReadAt reads s knows bytes (root_position (length bytes) s) y
       → reads (w.plain x) y
+
+  -- what is read back at its root is equal to the value itself, by a test such as that of `==`
+  abbrev pub ReadBackIsEqual : (Value → A → Type 0) → (A → A → Bool) → Type 0
+  ReadBackIsEqual reads eq =
+      (x y : A) (bytes : List ℕ) (fit : Fit) (names : Names) (keys : Keys)
+      → knows names
+      → w.suits fit keys x
+      → MadeArchive s knows w x bytes
+      → IsReadAt reads s knows bytes (root_position (length bytes) s) y
+      → IsTrue (eq x y)
 
   -- two shared values that were written under different keys, with a value's data or before, have different positions
   abbrev pub KeysStandApart : Type 0

@@ -1,5 +1,7 @@
 //! The laws of archives and of all their parts. Each is a function without a body, whose contract is the law.
-ghost use Rattle.archive_core.specs.Laws.{WrittenIsAccepted, ReadBackIsWritten, UnsharedSuits, UnsharedIsAccepted, UnsharedIsReadBack, KeysStandApart};
+ghost use Rattle.archive_forms.specs.Alike.{AlikeAreEqual};
+ghost use Rattle.archive_forms.specs.Faithful.{AreFaithful};
+ghost use Rattle.archive_core.specs.Laws.{WrittenIsAccepted, ReadBackIsWritten, ReadBackIsEqual, UnsharedSuits, UnsharedIsAccepted, UnsharedIsReadBack, KeysStandApart};
 
 pub use archive_core_validation::{nesting_is_bounded, unlimited_is_no_limit};
 pub use archive_forms::laws::{
@@ -54,6 +56,16 @@ pub fn unshared_is_read_back<T: Archive>()
 where
     T::Archived: ReadBack<T>,
     ensures { UnsharedIsReadBack T.Archived.shape T.Archived.knows T.spelling T.Archived.reads }
+{}
+
+/// What `from_bytes` reads back from what `to_bytes` wrote of a value is equal to the value, where its form is read back as
+/// what was archived and values that are archived alike are equal.
+pub fn read_back_is_equal<T: Archive + PartialEq>()
+where
+    T::Archived: ReadBack<T>,
+    requires faithful { AreFaithful T.Archive T.Archived.ReadBack }
+    requires alike { AlikeAreEqual T.spelling T.eq }
+    ensures { ReadBackIsEqual T.Archived.shape T.Archived.knows T.spelling T.Archived.reads T.eq }
 {}
 
 /// Shared values with different keys have different positions, after the data of a value is written from a state in

@@ -1,5 +1,5 @@
--- Which shapes may hold shared pointers: counted ones and weak ones, by their parts. A type that holds itself is not looked
--- into: it counts as one that does.
+-- Which shapes may hold shared pointers, counted or weak, by their parts. A type that holds itself is not looked into: it
+-- counts as one that does.
 use Rattle.std.specs.Prelude.{Bool, true, false, ◌||◌}
 use Rattle.archive_shape_layout.specs.Shape.{Shape, Shapes, Pointee}
 use Rattle.archive_shape_layout.specs.Shape.Shape.{number, nonzero, truth, character, text, tuple, array, option, result, choice, box, vector, shared, weak, tree, table, index_map, named}

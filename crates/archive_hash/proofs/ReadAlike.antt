@@ -1,7 +1,7 @@
 -- Maps and sets are read back with the entries and the elements that they were archived with, in some order.
-use Rattle.std.proofs.Common.{◌≡◌, ◌∙◌, ℕ, Bool, true, false, cond, ◌||◌, List, [], ◌∷◌, length, map, refl, sym, ap, ap₂, subst, arith, Option, Some, None, true≢false}
+use Rattle.std.proofs.Common.{◌≡◌, ◌∙◌, ℕ, Bool, true, false, cond, ◌||◌, List, [], ◌∷◌, map, refl, sym, ap, ap₂, subst, arith, Option, Some, true≢false}
 use Rattle.std.specs.Cmp.{IsEquivalence}
-use Rattle.std.specs.HashMap.{HashMap, IsUnique, IsReordered}
+use Rattle.std.specs.HashMap.{HashMap, IsUnique}
 use Rattle.std.specs.HashSet as bag
 use Rattle.std.specs.HashSet.{HashSet}
 use Rattle.std.specs.List.{AllByRecursion, AllZip, IsDistinct, list_any}
@@ -18,7 +18,7 @@ use Rattle.archive_forms_laws.specs.Regions.{plain_values}
 use Rattle.archive_forms_laws.specs.Spelling.{Spelling}
 use Rattle.archive_hash_writing.specs.Fitted.{by_place}
 use Rattle.archive_hash_writing.proofs.SpellingFitting.{by_place_moved}
-use Rattle.archive_forms.specs.Alike.{AreAlike, AlikeAreEqual, AlikeAreOne, AreAlikeEntries}
+use Rattle.archive_forms.specs.Alike.{AreAlike, AlikeAreEqual, AreAlikeEntries}
 use Rattle.archive_forms.specs.Faithful.{IsFaithful}
 use Rattle.archive_forms.specs.Reading.{reads_all, reads_tuple2}
 use Rattle.archive_forms.proofs.AlikeParts.{all_one, entries_one, entries_read, keys_alike, keys_back}

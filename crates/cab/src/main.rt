@@ -12,7 +12,9 @@ use std::rt::{Env, Files};
 const PATH: usize = 2;
 
 /// Carries out the command that the words spell.
-fn carry_out_words<R: Env + Files<File = File> + Input + Print + AllocGlobal>(rt: &R) -> Result<(), Fault>
+fn carry_out_words<R: Env + Files<File = File> + Input + Print + AllocGlobal>(
+    rt: &R,
+) -> Result<(), Fault>
 where
     R::Reader: IsTerminal,
 {

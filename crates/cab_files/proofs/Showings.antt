@@ -1,5 +1,5 @@
 -- Whether a write failed while a view of an archive was written.
-use Rattle.std.proofs.Common.{◌≡◌, ℕ, ◌+◌, Bool, true, false, List, Ok, Err}
+use Rattle.std.proofs.Common.{◌≡◌, ℕ, ◌+◌, Bool, true, false, List, Ok, Err, subst}
 use Rattle.std.specs.Prelude.{Result, MatchResult}
 use Rattle.archive_shape_layout.specs.Writing.{WriterMembers, IsCounted}
 use Rattle.archive_shape_layout.specs.declared.error.Error.{Error}
@@ -18,3 +18,13 @@ counted w bytes view.Text early late (Ok u) counts h = h.2.is_quiet
 counted w bytes view.Text early late (Err e) counts h = one_more w.COUNTS (w.failures early) (w.failures late) e counts h.2.is_counted
 counted w bytes (view.Map lines characters) early late (Ok u) counts h = h.1.2.is_quiet
 counted w bytes (view.Map lines characters) early late (Err e) counts h = one_more w.COUNTS (w.failures early) (w.failures late) e counts h.1.2.is_counted
+
+-- where all was written, no write failed
+pub unfailing : {W : Type 0} (w : WriterMembers W) (bytes : List ℕ) (v : View) (early late : W) (written : Result (Unit {0}) Error) (u : Unit {0}) → w.COUNTS ≡ true
+    → written ≡ Ok u → WritesView w bytes v early late (Ok written) → w.failures late ≡ w.failures early
+unfailing w bytes v early late written u counts is h = counted w bytes v early late (Ok u) counts (subst (λ r. WritesView w bytes v early late (Ok r)) is h)
+
+-- and one did where the error of one is returned
+pub failing : {W : Type 0} (w : WriterMembers W) (bytes : List ℕ) (v : View) (early late : W) (written : Result (Unit {0}) Error) (e : Error) → w.COUNTS ≡ true
+    → written ≡ Err e → WritesView w bytes v early late (Ok written) → w.failures late ≡ w.failures early + 1
+failing w bytes v early late written e counts is h = counted w bytes v early late (Err e) counts (subst (λ r. WritesView w bytes v early late (Ok r)) is h)

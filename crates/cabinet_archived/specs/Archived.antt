@@ -13,7 +13,7 @@ use Rattle.cabinet_archived.specs.declared.node_in.NodeIn.{NodeIn}
 use Rattle.cabinet_archived.specs.declared.resolver.NodeResolver.{NodeResolver}
 use Rattle.cabinet_archived.specs.declared.resolver.NodeResolver.TheVariants as variant
 
--- what is kept of a node's data, in the type that the code has for it
+-- what is kept of a node's data, in the type that the code has for it, and back
 abbrev pub node_resolver : Resolver → NodeResolver
 node_resolver resolver.leaf = variant.Leaf
 node_resolver (resolver.text r) = variant.Text r

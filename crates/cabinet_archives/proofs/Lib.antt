@@ -27,7 +27,6 @@ mod KeysYielded
 mod Leading
 mod LeafPlaces
 mod LeafTags
-mod ListedRegions
 pub mod ListedRegions
 mod Listings
 mod Loaded

@@ -1,6 +1,6 @@
 -- A map lists the regions that are claimed.
 use Rattle.std.proofs.Common.{◌≡◌, ◌∙◌, ℕ, zero, suc, ◌+◌, ◌<◌, ◌≤◌, ◌==◌, Bool, true, false, cond, List, [], ◌∷◌, ◌++◌, length, Option, Some, None, inl, inr, refl, sym, ap, ap₂, subst, arith, append_assoc, append-nil, eqb-true}
-use Rattle.std.specs.Prelude.{All, ⊤, ◌⊎◌}
+use Rattle.std.specs.Prelude.{⊤, ◌⊎◌}
 use Rattle.std.proofs.lemmas.Bool.Decides.{leb_tells}
 use Rattle.archive_shape_layout.specs.Bytes.{window}
 use Rattle.archive_shape_layout.specs.Shape.{Pointee}
@@ -9,20 +9,20 @@ use Rattle.archive_shape_layout.specs.Value.{Value, Values}
 use Rattle.archive_shape_layout.specs.Content.{Part, Span, Label, content_of, pointee_content}
 use Rattle.archive_shape_layout.specs.Content.Part.{behind}
 use Rattle.archive_shape_layout.specs.Content.Label.{written, same as keeps}
-use Rattle.archive_shape_layout.specs.Content.Content.{illegal, plain, claimed, counting}
+use Rattle.archive_shape_layout.specs.Content.Content.{plain, claimed, counting}
 use Rattle.archive_shape_layout.specs.Holds as layout
 use Rattle.archive_shape_layout.specs.Holds.{Region, Visit, OpenShared, Holds, HoldAll, HasRoot, Ascends, region_of, root_position, visited}
 use Rattle.archive_shape_layout.specs.Holds.Holds.{holds_plain, holds_claimed, holds_first, holds_later, holds_back}
 use Rattle.archive_shape_layout.specs.Holds.HoldAll.{holds_none, holds_more}
-use Rattle.archive_shape_layout.proofs.Ascent.{end_after-append, end_after-grows}
+use Rattle.archive_shape_layout.proofs.Ascent.{end_after-grows}
 use Rattle.archive_shape_layout.proofs.Edits.{narrow, one_follows}
 use Rattle.archive_shape_layout.proofs.Unique.{by_claimed}
 use Rattle.cabinet_documents.specs.Node.{node_shape, node_names}
-use Rattle.cabinet_documents.proofs.Places.{Place, Spot, node_here, shared_here, whole_here, node_behind, text_behind, part_of, parts_at, Leads, leads_nowhere, leads_plain, leads_claimed, leads_counted, leads_whole, led}
+use Rattle.cabinet_documents.proofs.Places.{Place, Spot, node_here, node_behind, text_behind, part_of, parts_at, Leads, leads_nowhere, leads_plain, leads_claimed, leads_counted, leads_whole, led}
 use Rattle.cabinet_archives.specs.Mapping.{Name, Listed, node, region, listed_region, listed_tag, node_tag, name_in, end_after, Maps, MapsAll}
 use Rattle.cabinet_archives.specs.Mapping.Maps.{maps_plain, maps_claimed, maps_first, maps_later}
 use Rattle.cabinet_archives.specs.Mapping.MapsAll.{maps_none, maps_more}
-use Rattle.cabinet_archives.specs.MapLaws.{span_of, spans, listed_spans, MapsRegions, MapListsRegions, root_name}
+use Rattle.cabinet_archives.specs.MapLaws.{span_of, spans, listed_spans, MapListsRegions, root_name}
 use Rattle.cabinet_archives.proofs.Listings as listings
 use Rattle.cabinet_archives.proofs.Listings.{claimed_maps, no_maps, one_list}
 

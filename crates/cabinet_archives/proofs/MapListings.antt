@@ -1,12 +1,12 @@
 -- What a map lists of the three kinds of maps of nodes, by what the bytes there say.
-use Rattle.std.proofs.Common.{◌≡◌, ◌∙◌, ◌≢◌, ℕ, zero, suc, ◌+◌, ◌-◌, ◌*◌, ◌<◌, ◌≤◌, nat_lt, Bool, true, false, cond, List, [], ◌∷◌, ◌++◌, map, take, slice_index, Some, refl, sym, ap, ap₂, subst, arith, append-nil, ◌==◌, eq-eqb, ne_eqb}
+use Rattle.std.proofs.Common.{◌≡◌, ◌∙◌, ◌≢◌, ℕ, suc, ◌+◌, ◌-◌, ◌*◌, ◌≤◌, nat_lt, Bool, true, false, cond, List, [], ◌∷◌, ◌++◌, map, take, slice_index, refl, sym, ap, ap₂, subst, arith, append-nil, ◌==◌, eq-eqb, ne_eqb}
 use Rattle.archive_shape_layout.specs.Bytes.{window, align_up, word_at, target_from}
-use Rattle.archive_shape_layout.specs.Shape.{Shape, Pointee, size_of}
+use Rattle.archive_shape_layout.specs.Shape.{Pointee, size_of}
 use Rattle.archive_shape_layout.specs.Shape.Shape.{text, table, tree, index_map}
 use Rattle.archive_shape_layout.specs.Shape.Pointee.{slice}
-use Rattle.archive_shape_layout.specs.Content.{Part, Span, Label, Item, item, place, Content, content_of, choose, shape_content, pointee_content, place_content, buckets_content, buckets_span, control_count, item_size, tagged_items, elements, entries, children, fields, node_span, keys_offset, values_offset, node_size, links_offset, link_node_align, link_node_size}
+use Rattle.archive_shape_layout.specs.Content.{Part, Span, Label, Item, item, place, content_of, choose, shape_content, pointee_content, place_content, buckets_content, buckets_span, control_count, item_size, tagged_items, elements, entries, children, fields, keys_offset, values_offset, node_size, links_offset, link_node_align, link_node_size}
 use Rattle.archive_shape_layout.specs.Content.Part.{at, behind, node, child, entry, buckets, place_at}
-use Rattle.archive_shape_layout.specs.Content.Label.{same, whole, second, woven, total}
+use Rattle.archive_shape_layout.specs.Content.Label.{same, whole, second, total}
 use Rattle.archive_shape_layout.specs.Content.Content.{illegal, plain, claimed, counting}
 use Rattle.archive_shape_layout.proofs.Windows.{word_within}
 use Rattle.archive_forms_laws.proofs.TextContent.{followed}
@@ -23,7 +23,6 @@ use Rattle.cabinet_documents.proofs.TableSound.{BucketsRead, reads_none, reads_b
 use Rattle.cabinet_archives.specs.Mapping.{Name, Listed, listed_region, listed_tag, text_in, end_after, Maps, MapsAll}
 use Rattle.cabinet_archives.specs.Mapping.Maps.{maps_plain, maps_claimed, maps_first, maps_later}
 use Rattle.cabinet_archives.specs.Mapping.MapsAll.{maps_none, maps_more}
-use Rattle.cabinet_archives.specs.declared.mapping.region.RegionKind.{RegionKind}
 use Rattle.cabinet_archives.specs.declared.mapping.region.RegionKind.TheVariants as kind
 use Rattle.cabinet_archives.proofs.Listings.{plain_maps, claimed_maps, no_maps, first_maps, not_mapped}
 use Rattle.cabinet_archives.proofs.NodeListings.{named, none_listed, only_maps, one_listed}

@@ -1,27 +1,27 @@
 -- What a map lists of a node and of what it leads to, by what the bytes there say.
-use Rattle.std.proofs.Common.{◌≡◌, ◌∙◌, ℕ, zero, suc, ◌+◌, ◌*◌, ◌<◌, ◌≤◌, ◌==◌, Bool, true, false, List, [], ◌∷◌, ◌++◌, slice_index, Some, refl, sym, ap, ap₂, subst, arith, append-nil, eq-eqb, ne_eqb, lt-ltb, nat_lt, inl, inr, ◌⊎◌, ◌≢◌}
+use Rattle.std.proofs.Common.{◌≡◌, ◌∙◌, ℕ, suc, ◌+◌, ◌*◌, ◌<◌, ◌≤◌, ◌==◌, Bool, true, false, List, [], ◌∷◌, ◌++◌, slice_index, Some, refl, sym, ap, subst, arith, append-nil, ne_eqb, lt-ltb, nat_lt, inl, inr, ◌⊎◌, ◌≢◌}
 use Rattle.std.specs.Int.{w64}
 use Rattle.std.proofs.lemmas.Bool.Decides.{eqb_tells}
 use Rattle.archive_shape_layout.specs.Bytes.{window, align_up, word_at, target_from}
-use Rattle.archive_shape_layout.specs.Shape.{Shape, Pointee, align_of}
+use Rattle.archive_shape_layout.specs.Shape.{Shape, align_of}
 use Rattle.archive_shape_layout.specs.Shape.Shape.{number, truth, text, option, box, choice, vector, shared}
 use Rattle.archive_shape_layout.specs.Shape.Pointee.{sized, slice, str}
-use Rattle.archive_shape_layout.specs.Content.{Names, Part, Span, Label, content_of, choose, following, option_content, shape_tagged, shape_content, shared_content, text_content, text_length, begins_inline, before_ff, pointee_content, elements}
+use Rattle.archive_shape_layout.specs.Content.{Part, Label, content_of, choose, shape_tagged, shape_content, shared_content, text_content, text_length, begins_inline, before_ff, pointee_content, elements}
 use Rattle.archive_shape_layout.specs.Content.Part.{at, behind}
-use Rattle.archive_shape_layout.specs.Content.Label.{same, whole, tagged, written}
-use Rattle.archive_shape_layout.specs.Content.Content.{plain, claimed, counting}
+use Rattle.archive_shape_layout.specs.Content.Label.{same, whole, written}
+use Rattle.archive_shape_layout.specs.Content.Content.{plain, counting}
 use Rattle.archive_shape_layout.proofs.Windows.{word_within}
 use Rattle.archive_forms_laws.proofs.TextContent.{followed}
 use Rattle.archive_forms_values.proofs.Chosen.{chosen, not_chosen}
 use Rattle.archive_forms_values.proofs.Tagged.{choice_is, none_is, own_tag, some_is}
 use Rattle.archive_forms_values.proofs.Targets.{first_word}
 use Rattle.archive_forms_values.specs.Parts.{PointsTo}
-use Rattle.cabinet_text_grammar.specs.Path.{Step, key, place, inside}
+use Rattle.cabinet_text_grammar.specs.Path.{Step, place, inside}
 use Rattle.cabinet_documents.specs.Node.{node_shape, node_names, payloads, whole_shape}
-use Rattle.cabinet_archives.specs.Mapping.{Name, Listed, node, region, listed_region, listed_tag, node_tag, name_in, end_after, Maps, MapsAll}
+use Rattle.cabinet_archives.specs.Mapping.{Name, Listed, node, listed_region, listed_tag, node_tag, name_in, end_after, Maps, MapsAll}
 use Rattle.cabinet_archives.specs.declared.mapping.region.RegionKind.{RegionKind}
 use Rattle.cabinet_archives.specs.declared.mapping.region.RegionKind.TheVariants as kind
-use Rattle.cabinet_archives.proofs.Listings.{PlainMaps, plain_maps, claimed_maps, CountedMaps, counted_first, counted_later, counting_maps, no_maps, not_mapped, first_maps}
+use Rattle.cabinet_archives.proofs.Listings.{plain_maps, claimed_maps, CountedMaps, counted_first, counted_later, counting_maps, no_maps, not_mapped, first_maps}
 
 -- a region of this kind, to whose node a path leads
 abbrev pub named : RegionKind → List Step → Name

@@ -1,5 +1,5 @@
 -- What is written of a node and of its payload, from what is written of the parts in it.
-use Rattle.std.proofs.Common.{◌≡◌, ◌∙◌, ℕ, ◌+◌, ◌-◌, ◌<◌, ◌≤◌, Bor, List, [], ◌∷◌, ◌++◌, drop, slice_index, Some, Result, Ok, Err, refl, sym, ap, subst, arith}
+use Rattle.std.proofs.Common.{◌≡◌, ◌∙◌, ℕ, ◌+◌, ◌<◌, ◌≤◌, Bor, List, [], ◌∷◌, ◌++◌, drop, slice_index, Some, Result, Ok, Err, refl, sym, ap, subst, arith}
 use Rattle.archive_shape_layout.specs.Bytes.{align_up, window}
 use Rattle.archive_shape_layout.specs.Shape.{Shape, align_of}
 use Rattle.archive_shape_layout.specs.Shape.Shape.{text, option, box}

@@ -1,13 +1,12 @@
 -- Parts whose lines are written one after the other.
-use Rattle.std.proofs.Common.{◌≡◌, ◌∙◌, ℕ, zero, suc, ◌+◌, ◌-◌, ◌*◌, ◌<◌, ◌≤◌, List, [], ◌∷◌, ◌++◌, Ok, Err, refl, sym, ap, subst, arith, append_assoc, append-nil}
+use Rattle.std.proofs.Common.{◌≡◌, ◌∙◌, ℕ, suc, ◌+◌, ◌-◌, ◌*◌, ◌<◌, ◌≤◌, List, [], ◌∷◌, ◌++◌, Ok, Err, refl, sym, ap, subst, arith, append_assoc, append-nil}
 use Rattle.archive_shape_layout.specs.Shape.{Shape, size_of}
 use Rattle.archive_shape_layout.specs.Content.{Part, elements, entries, children}
 use Rattle.archive_shape_layout.specs.Content.Part.{at, entry, child}
 use Rattle.archive_shape_layout.specs.Writing.{WriterMembers}
 use Rattle.archive_shape_layout.specs.declared.error.Error.{Error}
 use Rattle.cabinet_documents.specs.Node.{node_names}
-use Rattle.cabinet_archives.specs.Mapping.{Name, Listed, name_in, end_after, Maps, MapsAll}
-use Rattle.cabinet_archives.specs.MapLines.{tallied}
+use Rattle.cabinet_archives.specs.Mapping.{Name, Listed, name_in, Maps, MapsAll}
 use Rattle.cabinet_archives.specs.Mapped.{WritesListed}
 use Rattle.cabinet_archives.specs.declared.mapping.tally.Tally.{Tally}
 use Rattle.cabinet_archives.proofs.Listings.{no_maps, first_maps}

@@ -1,5 +1,5 @@
 -- The lines of one region: a region of no bytes has none.
-use Rattle.std.proofs.Common.{◌≡◌, ℕ, zero, suc, ◌++◌, [], refl, append-nil}
+use Rattle.std.proofs.Common.{◌≡◌, ℕ, zero, suc, [], refl, append-nil}
 use Rattle.cabinet_archives.specs.Mapping.{Name, listed_region}
 use Rattle.cabinet_archives.specs.MapLines.{written, written_region, tallied, past_region}
 use Rattle.cabinet_archives.specs.declared.mapping.tally.Tally.{Tally}

@@ -1,10 +1,10 @@
 -- What is written and counted of what is listed one after the other.
-use Rattle.std.proofs.Common.{◌≡◌, ◌∙◌, ℕ, zero, suc, ◌+◌, ◌-◌, ◌<◌, Bool, true, false, cond, nat_lt, List, [], ◌∷◌, ◌++◌, Result, Ok, Err, refl, sym, ap, subst, append_assoc}
-use Rattle.archive_shape_layout.specs.Writing.{WriterMembers, Written, Failed, Writes}
+use Rattle.std.proofs.Common.{◌≡◌, ◌∙◌, List, [], ◌∷◌, ◌++◌, Result, Ok, Err, refl, sym, ap, subst, append_assoc}
+use Rattle.archive_shape_layout.specs.Writing.{WriterMembers}
 use Rattle.archive_shape_layout.specs.declared.error.Error.{Error}
 use Rattle.archive_shape_layout.proofs.Joined.{written_none, written_both, failed_first, failed_after}
 use Rattle.cabinet_text_nodes.proofs.Pieces.{written_as, failed_as}
-use Rattle.cabinet_archives.specs.Mapping.{Name, Listed, node, region, end_after}
+use Rattle.cabinet_archives.specs.Mapping.{Listed, node, region, end_after}
 use Rattle.cabinet_archives.specs.MapLines.{with_node, past_region, written_region, tallied, written}
 use Rattle.cabinet_archives.specs.Mapped.{WritesListed}
 use Rattle.cabinet_archives.specs.declared.mapping.tally.Tally.{Tally}

@@ -83,10 +83,7 @@ impl ArchivedString {
             pos,
             ..
         } = out;
-        let own = match own_of(value.as_bytes(), resolver.pos, pos) {
-            Ok(own) => own,
-            Err(e) => return Err(e),
-        };
+        let own = own_of(value.as_bytes(), resolver.pos, pos)?;
         let end = start + 8;
         out[start..end].copy_from_slice(&own);
         Ok(())

@@ -60,16 +60,9 @@ pub(crate) fn check_buckets<
     ensures exact { ChecksBuckets C.kept T.Portable bytes.now target len capacity context.old result context.new }
 {
     let _len = bytes.len();
-    let range = match claim_buckets::<T, C>(target, capacity, context) {
-        Ok(range) => range,
-        Err(e) => return Err(e),
-    };
+    let range = claim_buckets::<T, C>(target, capacity, context)?;
     let controls = controls_at(bytes, target, capacity);
-    if let Err(e) = check_tags(controls, capacity, len) {
-        return Err(e);
-    }
-    if let Err(e) = check_items::<T, C, F>(bytes, target, &controls[..capacity], context, step) {
-        return Err(e);
-    }
+    check_tags(controls, capacity, len)?;
+    check_items::<T, C, F>(bytes, target, &controls[..capacity], context, step)?;
     context.pop_subtree_range(range)
 }

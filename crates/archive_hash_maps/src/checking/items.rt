@@ -29,9 +29,7 @@ pub(crate) fn check_items<
     for place in 0..controls.len() {
         bucket -= size;
         if controls[place] < 128 {
-            if let Err(e) = step(context, bucket) {
-                return Err(e);
-            }
+            step(context, bucket)?;
         }
     }
     Ok(())

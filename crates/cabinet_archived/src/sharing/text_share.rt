@@ -46,13 +46,8 @@ impl TextShare {
             (⟦<TextShare as Registry>⟧.known self.new) (text_key text.now) (ended pos))
             (λ e. e ≡ OutOfMemory) }
     {
-        let copy = match String::from_str(alloc, text) {
-            Ok(copy) => copy,
-            Err(e) => return Err(e.into()),
-        };
-        match self.ends.insert(copy, pos) {
-            Ok(_) => Ok(()),
-            Err(e) => Err(e.into()),
-        }
+        let copy = String::from_str(alloc, text)?;
+        self.ends.insert(copy, pos)?;
+        Ok(())
     }
 }

@@ -31,7 +31,6 @@ use archive_forms_rc::{ArchivedRc, RcFlavor};
 use archive_forms_values::{
     ArchivedBox, ArchivedOption, ArchivedString, ArchivedVec, Entry, read_word, target_of,
 };
-use archive_hash_maps::ArchivedHashTable;
 use archive_shape::{ArchivedU32, Portable, Ref};
 use archive_shape_layout::{Error, Writer};
 use cabinet_archived::{ArchivedKind, ArchivedNode};
@@ -40,10 +39,10 @@ use cabinet_archived::{ArchivedKind, ArchivedNode};
 const NODE: usize = ArchivedNode::SIZE;
 
 /// The size of a pair of a hashed or a kept map.
-const PAIR: usize = Entry::<ArchivedString, ArchivedNode>::SIZE;
+const PAIR: usize = ArchivedString::SIZE + NODE;
 
-/// Where a kept map has the pointer to its entries, which follows the table of their numbers.
-const ENTRIES: usize = ArchivedHashTable::<ArchivedU32>::SIZE;
+/// Where a kept map has the pointer to its entries: after the table of their numbers.
+const ENTRIES: usize = 12;
 
 /// Returns the layout of the nodes of search trees.
 fn tree_layout() -> NodeLayout

@@ -36,4 +36,4 @@ returns c =
     let suits = suit (tuple2_spelling number_shape number_spelling number_shape number_spelling) any_fit no_keys (λ e. (tt, (tt, tt))) map.map.entries in
     let reads = c.read_back_is_written.ensures map read c.as_slice-archive.result.now any_fit [] no_keys (tt, tt) suits (rw slice.value c.in_ok-bytes.ensures.archive) c.in_ok-read.ensures.value in
     let one = c.alike_leaves_are_one.ensures.unsigned_32 in
-    (c.maps_are_read_back.ensures.maps map read c.len-_entries.ensures.ordered reads).1 one one
+    (c.maps_are_read_back.ensures.maps map read c.len-entries.ensures.ordered reads).1 one one

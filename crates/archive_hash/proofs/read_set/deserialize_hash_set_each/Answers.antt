@@ -9,7 +9,8 @@ use Rattle.archive_hash_maps.specs.Maps.{entry_at}
 use Rattle.archive_hash.specs.Owned.{key_entries}
 use Rattle.archive_hash.proofs.Items.{next_position, none_left, next_has, reading_begun, next_read, reading_ended}
 use Rattle.archive_forms.proofs.Plain.{unit_read}
-use Rattle.archive_hash.proofs.StdMaps.{keys_back, key_put}
+use Rattle.archive_forms.proofs.AlikeParts.{keys_back}
+use Rattle.archive_hash.proofs.StdMaps.{key_put}
 use Rattle.archive_hash.proofs.read_set.deserialize_hash_set_each.Goals as goal
 
 pub loop-key-init : goal.loop-key-init

@@ -1,4 +1,4 @@
-use Rattle.std.proofs.Common.{arith}
+use Rattle.std.proofs.Common.{arith, true}
 use Rattle.cabinet.proofs.Sessions.{none_edited}
 use Rattle.cab_files.proofs.Endings.{flushed_edits, one_failure, unedited}
 use Rattle.cab_files.proofs.running.run_lines.Goals as goal
@@ -14,5 +14,5 @@ returns-clause-unedited g c = unedited _ _ _ c.requires (flushed_edits _ _ _ _ _
 
 pub flush-requires : goal.flush-requires
 flush-requires g c =
-    let few = one_failure _ c.run_in-outcome.result _ _ c.run_in-outcome.ensures.writer_fails in
+    let few = one_failure true c.run_in-outcome.result _ _ c.run_in-outcome.ensures.writer_fails in
     omega (arith, few, c.new-answers.ensures.failures)

@@ -8,7 +8,7 @@ use Rattle.archive_shape_layout.specs.Value.Value.{natural, counted, group}
 use Rattle.archive_shape_layout.specs.Value.Values.{no_values, more_values}
 use Rattle.archive_shape_layout.specs.declared.error.Error.{Error}
 use Rattle.archive_shape_layout.specs.declared.error.Error.TheVariants.{OutOfMemory}
-use Rattle.archive_shape_canonical.specs.Settled.{Fit}
+use Rattle.archive_shape_canonical.specs.FirstFit.{first_fit}
 use Rattle.archive_forms_laws.specs.State.{SharedValue, Keys}
 use Rattle.archive_forms_rc.specs.declared.sharing.keyed.Shared.{Shared}
 use Rattle.archive_forms.specs.Reading.{reads_in, reads_counted, reads_tuple2}
@@ -68,10 +68,6 @@ numbers_read n a b is_a is_b (Err e) h = tt
 abbrev denoted : ℕ → Option SharedValue
 denoted n = Some (record { pointee = sized (number w32 false); len = 1; value = natural n })
 
--- a fit: there is no table in shared numbers
-abbrev any_fit : Fit
-any_fit = record { capacity = λ n. n; table_controls = λ _. []; table_items = λ vs. vs; map_controls = λ _. []; map_numbers = λ _. [] }
-
 pub archived_and_read-requires : goal.archived_and_read-requires
 archived_and_read-requires c = record { named = ([], (tt, tt)) }
 
@@ -81,4 +77,4 @@ returns c =
     let second = c.in-Ok-number.ensures.1 in
     let keys : Keys = λ _. denoted c.args.n in
     numbers_read c.args.n c.in-Ok.first.value.value c.in-Ok-number.second.value.value first second c.archived_and_read.result
-    (c.archived_and_read.ensures.read any_fit keys ((ap denoted (sym first), tt), ((ap denoted (sym second), tt), tt)))
+    (c.archived_and_read.ensures.read (first_fit (λ _. 0)) keys ((ap denoted (sym first), tt), ((ap denoted (sym second), tt), tt)))

@@ -4,7 +4,7 @@ use Rattle.std.specs.Int.{w64}
 use Rattle.std.proofs.lemmas.Int.{to_z-of_z}
 use Rattle.std.proofs.lemmas.List.{drop_all}
 use Rattle.archive_shape_layout.specs.Bytes.{window}
-use Rattle.archive_shape_layout.specs.Shape.Shape.{number, truth, text, option, vector}
+use Rattle.archive_shape_layout.specs.Shape.Shape.{number, truth, option, vector}
 use Rattle.archive_shape_layout.specs.Shape.Pointee.{str}
 use Rattle.archive_shape_layout.specs.Value.Value.{integer, string}
 use Rattle.archive_shape.specs.Key.{HeldAt}

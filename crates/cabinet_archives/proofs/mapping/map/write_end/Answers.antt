@@ -1,7 +1,7 @@
 use Rattle.std.proofs.Common.{◌++◌, codes}
 use Rattle.std.proofs.lemmas.Result.{err_from_is_err_and}
 use Rattle.archive_shape_layout.proofs.Joined.{failed_first, failed_after, appends_after}
-use Rattle.cabinet_archives.specs.MapLines.{past_gap, spelled_more, spelled_summary}
+use Rattle.cabinet_archives.specs.MapLines.{past_gap, spelled_summary}
 use Rattle.cabinet_archives.proofs.mapping.map.write_end.Goals as goal
 
 pub returns-in_err-write_more : goal.returns-in_err-write_more

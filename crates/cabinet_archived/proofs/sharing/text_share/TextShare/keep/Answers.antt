@@ -1,5 +1,5 @@
 use Rattle.cabinet_archived.proofs.Keeping.{text_kept}
 use Rattle.cabinet_archived.proofs.sharing.text_share.TextShare.keep.Goals as goal
 
-pub returns-in-Ok-insert : goal.returns-in-Ok-insert
-returns-in-Ok-insert c = text_kept c.args.self.now.ends c.insert.new.self c.in-Ok.copy c.args.pos c.args.text.now c.in-Ok.ensures.ok c.in-Ok-insert.ensures.updates
+pub returns : goal.returns
+returns c = text_kept c.args.self.now.ends c.insert.new.self c.in_ok-copy.copy c.args.pos c.args.text.now c.in_ok-copy.ensures.ok c.in_ok-insert.ensures.updates
