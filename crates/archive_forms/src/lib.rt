@@ -37,8 +37,8 @@ pub use archive_forms_values::{
 };
 pub use archive_forms_writing::{
     Archive, ArchiveUnsized, EntryAdapter, EntryParts, EntryResolver, EntryStep, KeyOf, Leaf,
-    Serialize, SerializeEntry, SerializeUnsized, align, pad, resolve_aligned, resolve_field,
-    resolve_from_ref, resolve_from_slice, serialize_array_each, serialize_box_each,
+    OrderedKeyOf, Serialize, SerializeEntry, SerializeUnsized, align, pad, resolve_aligned,
+    resolve_field, resolve_from_ref, resolve_from_slice, serialize_array_each, serialize_box_each,
     serialize_boxed_slice_each, serialize_entry_each, serialize_from_iter,
     serialize_from_iter_each, serialize_from_ref, serialize_from_slice, serialize_from_str,
     serialize_one_each, serialize_option_each, serialize_result_each, serialize_slice_each,

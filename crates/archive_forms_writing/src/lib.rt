@@ -32,7 +32,7 @@ pub use elements::{
     serialize_element, serialize_one_each, serialize_slice_each, serialize_slice_with_each,
 };
 pub use fields::resolve_field;
-pub use key::KeyOf;
+pub use key::{KeyOf, OrderedKeyOf};
 pub use leaf::Leaf;
 pub use option::serialize_option_each;
 pub use placing::{align, pad, resolve_aligned};
