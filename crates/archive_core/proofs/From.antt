@@ -22,27 +22,48 @@ use Rattle.archive_forms_laws.proofs.Written.{are_distinct}
 use Rattle.archive_core_validation.proofs.Unlimited.{unlimited_law}
 use Rattle.archive_core.specs.Written.{from_position, IsWrittenFrom, IsAcceptedUnshared, root_piece, root_fits}
 
+-- its own bytes end all, so they lie at the position of the root
+pub root_at : {A R : Type 0} (fit : Fit) (s : Shape) (knows : Names → Type 0) (w : Spelling A R) (x : A) (front bytes : List ℕ) (start : ℕ)
+    → Spells fit s knows w → root_fits s w x start → length front ≡ start → bytes ≡ front ++ root_piece s w x start
+    → (length bytes ≡ region_at w s (x ∷ []) (from_position start) + size_of s) × (region_at w s (x ∷ []) (from_position start) ≡ root_position (length bytes) s)
+unfolding root_position
+root_at fit s knows w x front bytes start spells f long e =
+    let st : State = from_position start in
+    let piece = root_piece s w x start in
+    let t = region_at w s (x ∷ []) st in
+    let same : length bytes ≡ start + length piece = ap length e ∙ length-append front piece ∙ ap (λ m. m + length piece) long in
+    let end : start + length piece ≡ t + 1 * size_of s = region_end fit s knows w (x ∷ []) (spells x, tt) st f in
+    let len : length bytes ≡ t + size_of s = omega (arith, same, end) in
+    let aligned : t % align_of s ≡ 0 = starts_aligned s (start + length (w.piece x st)) in
+    let before : length bytes - size_of s ≡ t = omega (arith, len) in
+    (len, sym (ap (λ m. m - m % align_of s) before ∙ ap (λ r. t - r) aligned ∙ omega arith))
+
+-- and all that was written lies behind the front
+pub root_stands : {A R : Type 0} (s : Shape) (w : Spelling A R) (x : A) (front bytes : List ℕ) (start : ℕ)
+    → length front ≡ start → bytes ≡ front ++ root_piece s w x start → HasBytes bytes start (root_piece s w x start)
+root_stands s w x front bytes start long e =
+    let piece = root_piece s w x start in
+    let P : List ℕ → Type 0 = λ bs. HasBytes bs start piece in
+    let Q : ℕ → Type 0 = λ at. HasBytes (front ++ piece) at piece in
+    subst P (sym e) (subst Q long (take_all_behind front piece))
+  where
+    take_all_behind : (xs ys : List ℕ) → HasBytes (xs ++ ys) (length xs) ys
+    take_all_behind xs ys = ap (λ bs. take (length ys) bs) (drop-append_seam xs ys) ∙ take_all (length ys) ys (omega arith)
+
 pub written_from : {A R : Type 0} (fit : Fit) (s : Shape) (knows : Names → Type 0) (w : Spelling A R) (x : A) (names : Names) (keys : Keys) (front bytes : List ℕ) (start : ℕ)
     → Spells fit s knows w → knows names → w.suits fit keys x
     → root_fits s w x start → length front ≡ start → AreBytes front → bytes ≡ front ++ root_piece s w x start → IsWrittenFrom start s w x fit names keys bytes
-unfolding root_position
 written_from fit s knows w x names keys front bytes start spells k n f long are_front e =
     let st : State = from_position start in
     let piece = root_piece s w x start in
     let t = region_at w s (x ∷ []) st in
     let state : IsConsistent st = record { before = tt; descending = tt; own_keys = tt; new_keys = tt } in
     let same : length bytes ≡ start + length piece = ap length e ∙ length-append front piece ∙ ap (λ m. m + length piece) long in
-    let P : List ℕ → Type 0 = λ bs. HasBytes bs start piece in
-    let Q : ℕ → Type 0 = λ at. HasBytes (front ++ piece) at piece in
-    let stands : HasBytes bytes start piece = subst P (sym e) (subst Q long (take_all_behind front piece)) in
+    let stands : HasBytes bytes start piece = root_stands s w x front bytes start long e in
     let h = boxed_canonical fit s knows w x (spells x) st names keys bytes 0 [] k n tt state tt f stands in
     let last = (spells x).consistent st state f.0.0 in
     let told = (spells x).keyed keys st n tt f.0.0 in
-    let end : start + length piece ≡ t + 1 * size_of s = region_end fit s knows w (x ∷ []) (spells x, tt) st f in
-    let len : length bytes ≡ t + size_of s = omega (arith, same, end) in
-    let aligned : t % align_of s ≡ 0 = starts_aligned s (start + length (w.piece x st)) in
-    let before : length bytes - size_of s ≡ t = omega (arith, len) in
-    let at : t ≡ (length bytes - size_of s) - (length bytes - size_of s) % align_of s = sym (ap (λ m. m - m % align_of s) before ∙ ap (λ r. t - r) aligned ∙ omega arith) in
+    let at = (root_at fit s knows w x front bytes start spells f long e).1 in
     let whole : start + length piece ≡ length bytes = sym same in
     let are = region_bytes fit s knows w (x ∷ []) (spells x, tt) st f in
     let all : AreBytes (front ++ piece) = bytes_append front piece are_front are in
@@ -66,20 +87,14 @@ written_from fit s knows w x names keys front bytes start spells k n f long are_
         bytes_are = subst AreBytes (sym e) all;
       });
     }
-  where
-    take_all_behind : (xs ys : List ℕ) → HasBytes (xs ++ ys) (length xs) ys
-    take_all_behind xs ys = ap (λ bs. take (length ys) bs) (drop-append_seam xs ys) ∙ take_all (length ys) ys (omega arith)
 
 -- there are fewer than 2^64 bytes
 short_from : {A R : Type 0} (fit : Fit) (s : Shape) (knows : Names → Type 0) (w : Spelling A R) (x : A) (front bytes : List ℕ) (start : ℕ)
     → Spells fit s knows w → root_fits s w x start → length front ≡ start → bytes ≡ front ++ root_piece s w x start → length bytes < 2 ^ 64
 short_from fit s knows w x front bytes start spells f long e =
-    let st : State = from_position start in
-    let piece = root_piece s w x start in
-    let same : length bytes ≡ start + length piece = ap length e ∙ length-append front piece ∙ ap (λ m. m + length piece) long in
-    let end : start + length piece ≡ region_at w s (x ∷ []) st + 1 * size_of s = region_end fit s knows w (x ∷ []) (spells x, tt) st f in
+    let len = (root_at fit s knows w x front bytes start spells f long e).0 in
     let last = f.2.0.1 in
-    omega (arith, same, end, last)
+    omega (arith, len, last)
 
 -- they are accepted where no value of the type holds a shared pointer
 pub accepted_from : {A R : Type 0} (s : Shape) (knows : Names → Type 0) (w : Spelling A R) (x : A) (front bytes : List ℕ) (start : ℕ)

@@ -2,6 +2,7 @@
 ghost use Rattle.archive_forms.specs.Alike.{AlikeAreEqual};
 ghost use Rattle.archive_forms.specs.Faithful.{AreFaithful};
 ghost use Rattle.archive_core.specs.Laws.{WrittenIsAccepted, ReadBackIsWritten, ReadBackIsEqual, UnsharedSuits, UnsharedIsAccepted, UnsharedIsReadBack, KeysStandApart};
+ghost use Rattle.archive_core.specs.Parts.{BoxedIsReadable, BoxedIsWritten, ElementsAreReadable, ElementsAreWritten, ErrIsReadable, ErrIsWritten, Fields2AreReadable, Fields2AreWritten, Fields3AreReadable, Fields3AreWritten, Fields4AreReadable, Fields4AreWritten, KeptIsReadable, KeptIsWritten, OkIsReadable, OkIsWritten, PartIsHeld, RootIsReadable, RootIsWritten, SeenIsReadable, SeenIsWritten, SomeIsReadable, SomeIsWritten};
 
 pub use archive_core_validation::{nesting_is_bounded, unlimited_is_no_limit};
 pub use archive_forms::laws::{
@@ -72,4 +73,69 @@ where
 /// which those written before it have.
 pub fn keys_stand_apart<T: Archive>()
     ensures { KeysStandApart T.Archived.shape T.Archived.knows T.spelling }
+{}
+
+/// What `to_bytes` writes of a value is the value's data and, at the root, its own bytes.
+pub fn root_is_written<T: Archive>()
+    ensures written { RootIsWritten T.Archived.shape T.spelling }
+    ensures readable { RootIsReadable T.Archived.shape T.spelling }
+{}
+
+/// Where a value is written that is archived as another, the other is written.
+pub fn views_are_written<T: Archive, B, Q>()
+    ensures seen { SeenIsWritten T.spelling B }
+    ensures kept { KeptIsWritten T.spelling Q }
+    ensures seen_readable { SeenIsReadable T.Archived.shape T.spelling B }
+    ensures kept_readable { KeptIsReadable T.Archived.shape T.spelling Q }
+{}
+
+/// Where a tuple is written, each of its fields is, at its position.
+pub fn fields_are_written<A: Archive, B: Archive, C: Archive, D: Archive>()
+    ensures of_two { Fields2AreWritten A.Archived.shape A.spelling B.Archived.shape B.spelling }
+    ensures of_three { Fields3AreWritten A.Archived.shape A.spelling B.Archived.shape B.spelling
+        C.Archived.shape C.spelling }
+    ensures of_four { Fields4AreWritten A.Archived.shape A.spelling B.Archived.shape B.spelling
+        C.Archived.shape C.spelling D.Archived.shape D.spelling }
+{}
+
+/// Where a written tuple can be read, each of its fields can.
+pub fn fields_are_readable<A: Archive, B: Archive, C: Archive, D: Archive>()
+    ensures of_two { Fields2AreReadable A.Archived.shape A.spelling B.Archived.shape B.spelling
+        A.Archived.knows B.Archived.knows }
+    ensures of_three { Fields3AreReadable A.Archived.shape A.spelling B.Archived.shape B.spelling
+        C.Archived.shape C.spelling A.Archived.knows B.Archived.knows C.Archived.knows }
+    ensures of_four { Fields4AreReadable A.Archived.shape A.spelling B.Archived.shape B.spelling
+        C.Archived.shape C.spelling D.Archived.shape D.spelling
+        A.Archived.knows B.Archived.knows C.Archived.knows D.Archived.knows }
+{}
+
+/// Where a vector is written, each of its elements is, from where the vector leads on.
+pub fn elements_are_written<T: Archive>()
+    ensures written { ElementsAreWritten T.Archived.shape T.spelling }
+    ensures readable { ElementsAreReadable T.Archived.shape T.spelling T.Archived.knows }
+{}
+
+/// Where an option is written that is some value, the value is.
+pub fn some_is_written<T: Archive>()
+    ensures written { SomeIsWritten T.Archived.shape T.spelling }
+    ensures readable { SomeIsReadable T.Archived.shape T.spelling }
+{}
+
+/// Where a result is written, its value or its error is.
+pub fn outcome_is_written<T: Archive, E: Archive>()
+    ensures ok { OkIsWritten T.Archived.shape E.Archived.shape T.spelling E.spelling }
+    ensures err { ErrIsWritten T.Archived.shape E.Archived.shape T.spelling E.spelling }
+    ensures ok_readable { OkIsReadable T.Archived.shape E.Archived.shape T.spelling E.spelling }
+    ensures err_readable { ErrIsReadable T.Archived.shape E.Archived.shape T.spelling E.spelling }
+{}
+
+/// Where a box is written, its value is, where the box leads.
+pub fn boxed_is_written<T: Archive>()
+    ensures written { BoxedIsWritten T.Archived.shape T.spelling }
+    ensures readable { BoxedIsReadable T.Archived.shape T.spelling }
+{}
+
+/// Where a written value can be read, the layout has it.
+pub fn part_is_held<T: Archive>()
+    ensures { PartIsHeld T.Archived.shape T.Archived.knows T.spelling }
 {}

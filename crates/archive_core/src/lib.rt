@@ -68,6 +68,7 @@ pub use archive_forms::Iter;
 pub use archive_forms::Keeps;
 pub use archive_forms::KeyOf;
 pub use archive_forms::Leaf;
+pub use archive_forms::OrderedKeyOf;
 pub use archive_forms::RcFlavor;
 pub use archive_forms::RcResolver;
 pub use archive_forms::RcWeakResolver;

@@ -25,3 +25,4 @@ pub mod Texts
 pub mod Unshared
 pub mod Views
 pub mod Written
+pub mod WrittenAt

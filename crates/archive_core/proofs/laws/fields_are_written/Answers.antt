@@ -1,0 +1,11 @@
+use Rattle.archive_core.proofs.Parts.{fields2_law, fields3_law, fields4_law}
+use Rattle.archive_core.proofs.laws.fields_are_written.Goals as goal
+
+pub returns-clause-of_two : goal.returns-clause-of_two
+returns-clause-of_two g c = fields2_law g.A.Archived.Portable.shape g.A.Archive.spelling g.B.Archived.Portable.shape g.B.Archive.spelling g.A.Archived.Portable.knows g.B.Archived.Portable.knows g.met.A.Archive.spells g.met.B.Archive.spells
+
+pub returns-clause-of_three : goal.returns-clause-of_three
+returns-clause-of_three g c = fields3_law g.A.Archived.Portable.shape g.A.Archive.spelling g.B.Archived.Portable.shape g.B.Archive.spelling g.C.Archived.Portable.shape g.C.Archive.spelling g.A.Archived.Portable.knows g.B.Archived.Portable.knows g.C.Archived.Portable.knows g.met.A.Archive.spells g.met.B.Archive.spells g.met.C.Archive.spells
+
+pub returns-clause-of_four : goal.returns-clause-of_four
+returns-clause-of_four g c = fields4_law g.A.Archived.Portable.shape g.A.Archive.spelling g.B.Archived.Portable.shape g.B.Archive.spelling g.C.Archived.Portable.shape g.C.Archive.spelling g.D.Archived.Portable.shape g.D.Archive.spelling g.A.Archived.Portable.knows g.B.Archived.Portable.knows g.C.Archived.Portable.knows g.D.Archived.Portable.knows g.met.A.Archive.spells g.met.B.Archive.spells g.met.C.Archive.spells g.met.D.Archive.spells
