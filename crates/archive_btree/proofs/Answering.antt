@@ -28,7 +28,7 @@ use Rattle.archive_btree_layout.specs.Descent.{descend}
 use Rattle.archive_btree_layout.specs.Reading.{Place}
 use Rattle.archive_btree_layout.specs.Tree.{Tree, items}
 use Rattle.archive_btree_maps.specs.Lookups.{QueryOrders, QuerySays, HasKey}
-use Rattle.archive_btree_maps.specs.Maps.{IsMapAt, AreEntriesAt, IsEntryAt}
+use Rattle.archive_btree_maps.specs.Maps.{IsMapAt, IsMapOf, AreEntriesAt, IsEntryAt}
 use Rattle.archive_btree_maps.proofs.LookedUp.{ordered_search, one_entry}
 use Rattle.archive_btree_maps.proofs.ReadTree.{map_is_read}
 use Rattle.archive_btree.specs.Answering.{IsWrittenMap, HasEntry, KeysAscend, entry_with, FindsEntry, AnswersKeys}
@@ -194,12 +194,11 @@ module _ {A B R P : Type 0} (most : ℕ) (k v : Shape) (knows others : Names →
     entry_is_there query orders t None some h = absurd cc
     entry_is_there query orders t (Some e) some h = some_of (λ at. Entry at e) (descend orders t) h
 
-    -- of a map at any position
-    pub held_answers : (pos : ℕ) (es : List (A × B)) (st : State) → 0 < most → HeldAt (tree most k v) (both knows others) bytes pos ((btree_spelling most k v keys vals).value es st)
+    -- of the entries of a map that is read
+    pub read_answers : (pos : ℕ) (es : List (A × B)) (st : State) → 0 < most → IsMapOf k v knows others bytes most pos ((btree_spelling most k v keys vals).value es st)
         → KeysAscend most k v knows others keys vals bytes key order es
         → AnswersKeys most k v knows others keys vals bytes key order key_of pos es
-    held_answers pos es st some h ascending =
-        let m = map_is_read k v knows others bytes most pos ((btree_spelling most k v keys vals).value es st) h in
+    read_answers pos es st some m ascending =
         let ps = items m.search_tree in
         let there : AllZip Entry ps es = entries_held ps (members ((btree_spelling most k v keys vals).value es st)) es m.entries (entries_spelled most k v keys vals es st some) in
         let alike : (query : Q) (orders : Place → Ordering) → QueryOrders key_of order bytes query orders ps → AllZip (IsCompared query orders) ps es = λ query orders q. all_compared query orders ps es there q in
@@ -229,6 +228,13 @@ module _ {A B R P : Type 0} (most : ℕ) (k v : Shape) (knows others : Names →
               let found = find_some (λ p. is_eq (orders p)) ps within.0 at within.1 (ap (λ p. is_eq (orders p)) within.2 ∙ ap is_eq equal) in
               has_entry query orders pos m.search_tree m.map (right query) (keys_there ps es there) found.0 (searched query orders (right query) ∙ found.1);
         }
+
+    -- of a map at any position
+    pub held_answers : (pos : ℕ) (es : List (A × B)) (st : State) → 0 < most → HeldAt (tree most k v) (both knows others) bytes pos ((btree_spelling most k v keys vals).value es st)
+        → KeysAscend most k v knows others keys vals bytes key order es
+        → AnswersKeys most k v knows others keys vals bytes key order key_of pos es
+    held_answers pos es st some h ascending =
+        read_answers pos es st some (map_is_read k v knows others bytes most pos ((btree_spelling most k v keys vals).value es st) h) ascending
 
     -- of a map that is a root
     pub map_answers : (es : List (A × B)) → 0 < most → IsWrittenMap most k v knows others keys vals bytes es → KeysAscend most k v knows others keys vals bytes key order es

@@ -5,4 +5,6 @@ pub mod Keyed
 pub mod Listed
 mod ReadBack
 pub mod Seen
+mod Unshared
 mod Widths
+mod WrittenAt

@@ -1,12 +1,26 @@
 //! The laws of all parts of `archive_btree`. Each is a function whose contract is the law, and whose body is empty, but
-//! for `written_map_answers`, which asks a map of std whether its keys ascend.
-ghost use Rattle.std.specs.Prelude.{ℕ, ◌<◌, List, length};
-ghost use Rattle.archive_shape_layout.specs.Shape.Shape.{tree};
+//! for those that ask a map of std whether its keys ascend.
+ghost use Rattle.std.specs.Prelude.{◌≡◌, ℕ, ◌<◌, List, false, length};
+ghost use Rattle.archive_shape_layout.specs.Shape.Shape.{tree, tuple};
+ghost use Rattle.archive_shape_layout.specs.Shape.Shapes.{no_shapes};
+ghost use Rattle.archive_shape_layout.specs.Content.{Names};
 ghost use Rattle.archive_shape_layout.specs.Holds.{root_position};
+ghost use Rattle.archive_shape_layout.specs.Visited.{AllStand};
+ghost use Rattle.archive_shape_canonical.specs.Settled.{Fit};
+ghost use Rattle.archive_shape_canonical.specs.Canonical.{AreBytes};
+ghost use Rattle.archive_shape.specs.Key.{HeldAt};
+ghost use Rattle.archive_forms_values.specs.Parts.{both};
+ghost use Rattle.archive_forms_laws.specs.State.{State, Keys, visits_of};
+ghost use Rattle.archive_forms_laws.specs.Fields.{unit_spelling};
+ghost use Rattle.archive_forms_laws.specs.Forms.{seen_as};
+ghost use Rattle.archive_forms_laws.specs.Unshared.{holds_shared};
+ghost use Rattle.archive_forms_laws.specs.WrittenAt.{IsWrittenAt};
 ghost use Rattle.archive_forms.specs.Alike.{AlikeAreEqual};
 ghost use Rattle.archive_forms.specs.Faithful.{AreFaithful};
+ghost use Rattle.archive_btree_spelling.specs.Maps.{btree_spelling};
 ghost use Rattle.archive_btree.specs.Answering.{IsWrittenMap, KeysAscend, AnswersKeys};
 ghost use Rattle.archive_btree.specs.Laws.{MapsAreReadBack, SetsAreReadBack};
+ghost use Rattle.archive_btree.specs.Owned.{entries_spelling, key_entries, IsSpelledAs};
 
 use crate::{OwnedBTreeMap, OwnedBTreeSet};
 pub use archive_btree_layout::{
@@ -25,11 +39,11 @@ pub use archive_btree_spelling::{
     written_is_packed, written_is_read,
 };
 use archive_forms::ReadBack;
-use archive_forms_writing::{Archive, KeyOf};
+use archive_forms_writing::{Archive, KeyOf, OrderedKeyOf};
 
 /// The archive of entries whose keys ascend has the entries that it was written of, in order, and a look-up of a key
 /// returns the entry with the key, and nothing if there is none. Each key can be passed to `index`.
-pub fn written_entries_answer<Q, K: Archive + Ord, V: Archive, const E: usize>()
+pub fn written_entries_answer<Q, K: Archive, V: Archive, const E: usize>()
 where
     K::Archived: KeyOf<K, Q>,
     ensures { (bytes : List ℕ) (es : List (K × V)) → 0 < E
@@ -45,7 +59,7 @@ pub fn written_map_answers<Q, K: Archive + Ord, V: Archive, const E: usize>(
     map: &OwnedBTreeMap<K, V, E>,
 )
 where
-    K::Archived: KeyOf<K, Q>,
+    K::Archived: OrderedKeyOf<K, Q>,
     ensures { (bytes : List ℕ) → 0 < E
         → IsWrittenMap E K.Archived.shape V.Archived.shape K.Archived.knows V.Archived.knows K.spelling V.spelling bytes map.now.map.entries
         → AnswersKeys E K.Archived.shape V.Archived.shape K.Archived.knows V.Archived.knows K.spelling V.spelling bytes K.Archived.key K.Archived.order
@@ -54,6 +68,69 @@ where
     // The call ensures that the keys ascend.
     let _len = map.map.len();
 }
+
+/// Where the layout has what is written of entries whose keys ascend, at any position, as in a struct, a list or another
+/// map, it has these entries, in order, and look-ups return them in the same way.
+pub fn held_entries_answer<Q, K: Archive, V: Archive, const E: usize>()
+where
+    K::Archived: KeyOf<K, Q>,
+    ensures { (bytes : List ℕ) (pos : ℕ) (es : List (K × V)) (st : State) → 0 < E → AreBytes bytes
+        → HeldAt (tree E K.Archived.shape V.Archived.shape) (both K.Archived.knows V.Archived.knows) bytes pos
+        ((btree_spelling E K.Archived.shape V.Archived.shape K.spelling V.spelling).value es st)
+        → KeysAscend E K.Archived.shape V.Archived.shape K.Archived.knows V.Archived.knows K.spelling V.spelling bytes K.Archived.key K.Archived.order es
+        → AnswersKeys E K.Archived.shape V.Archived.shape K.Archived.knows V.Archived.knows K.spelling V.spelling bytes K.Archived.key K.Archived.order
+        K.Archived.key_of pos es }
+{}
+
+/// A map of std answers its keys in the same way where the layout has what is written of it, at any position.
+pub fn held_map_answers<Q, K: Archive + Ord, V: Archive, const E: usize>(
+    map: &OwnedBTreeMap<K, V, E>,
+)
+where
+    K::Archived: OrderedKeyOf<K, Q>,
+    ensures { (bytes : List ℕ) (pos : ℕ) (st : State) → 0 < E → AreBytes bytes
+        → HeldAt (tree E K.Archived.shape V.Archived.shape) (both K.Archived.knows V.Archived.knows) bytes pos
+        (⟦<OwnedBTreeMap<K, V, E> as Archive>⟧.spelling.value map.now st)
+        → AnswersKeys E K.Archived.shape V.Archived.shape K.Archived.knows V.Archived.knows K.spelling V.spelling bytes K.Archived.key K.Archived.order
+        K.Archived.key_of pos map.now.map.entries }
+{
+    // The call ensures that the keys ascend.
+    let _len = map.map.len();
+}
+
+/// A map of std answers its keys in the same way where it was written, at any position: if some fit suits it and the
+/// shared values that were written before it have their values, or if no key and no value holds a shared pointer.
+pub fn map_written_at_answers<Q, K: Archive + Ord, V: Archive, const E: usize>(
+    map: &OwnedBTreeMap<K, V, E>,
+)
+where
+    K::Archived: OrderedKeyOf<K, Q>,
+    ensures shared { (bytes : List ℕ) (pos : ℕ) (names : Names) (keys : Keys) (fit : Fit) → 0 < E → AreBytes bytes
+        → both K.Archived.knows V.Archived.knows names
+        → ⟦<OwnedBTreeMap<K, V, E> as Archive>⟧.spelling.suits fit keys map.now
+        → (written : IsWrittenAt keys ⟦<OwnedBTreeMap<K, V, E> as Archive>⟧.spelling bytes pos map.now)
+        → AllStand names bytes written.state.pos (visits_of written.state.met)
+        → AnswersKeys E K.Archived.shape V.Archived.shape K.Archived.knows V.Archived.knows K.spelling V.spelling bytes K.Archived.key K.Archived.order
+        K.Archived.key_of pos map.now.map.entries }
+    ensures unshared { (bytes : List ℕ) (pos : ℕ) (names : Names) (keys : Keys) → 0 < E → AreBytes bytes
+        → both K.Archived.knows V.Archived.knows names
+        → holds_shared (tree E K.Archived.shape V.Archived.shape) ≡ false
+        → IsWrittenAt keys ⟦<OwnedBTreeMap<K, V, E> as Archive>⟧.spelling bytes pos map.now
+        → AnswersKeys E K.Archived.shape V.Archived.shape K.Archived.knows V.Archived.knows K.spelling V.spelling bytes K.Archived.key K.Archived.order
+        K.Archived.key_of pos map.now.map.entries }
+{
+    // The call ensures that the keys ascend.
+    let _len = map.map.len();
+}
+
+/// A map of std is archived as its entries in order, and a set as the entries of its elements: the laws above are of
+/// these.
+pub fn spelled_as_entries<K: Archive + Ord, V: Archive, const E: usize>()
+    ensures maps { IsSpelledAs ⟦<OwnedBTreeMap<K, V, E> as Archive>⟧.spelling
+        (seen_as (λ m. m.map.entries) (entries_spelling E K.Archived.shape V.Archived.shape K.spelling V.spelling)) }
+    ensures sets { IsSpelledAs ⟦<OwnedBTreeSet<K, E> as Archive>⟧.spelling
+        (seen_as (λ s. key_entries s.set.keys) (entries_spelling E K.Archived.shape (tuple no_shapes) K.spelling unit_spelling)) }
+{}
 
 /// What a map of std is archived as is read back as maps that have its entries, in order, and a set as sets that have its
 /// elements: no more, no fewer and no others. They are the same values where values of their types that are archived

@@ -44,8 +44,8 @@ use Rattle.archive_hash_maps.specs.Maps.{KeySays, HasKey}
 use Rattle.archive_hash_maps.proofs.Found.{none_looked_up}
 use Rattle.archive_hash_writing.specs.Fitted.{capacity_of, places_of, by_place, controls_of}
 use Rattle.archive_hash_writing.proofs.SpellingFitting.{above, are_apart, by_place_moved, length-places, places_fit}
-use Rattle.archive_hash_writing.proofs.WrittenItems.{HasItem, IsFilledTable, filled_table, empty_table}
-use Rattle.archive_hash.specs.Answering.{IsWrittenMap, HasEntry, FindsFirst, AnswersKeys, first_with}
+use Rattle.archive_hash_writing.proofs.WrittenItems.{HasItem, IsFilledTable, HasWrittenPlaces, root_places, filled_table, empty_table}
+use Rattle.archive_hash.specs.Answering.{IsWrittenMap, HasEntry, FindsFirst, AnswersKeys, first_with, map_spelling}
 
 -- ---- the first element that passes
 
@@ -104,6 +104,14 @@ module _ {A B R P : Type 0} (k v : Shape) (knows others : Names → Type 0) (key
   all_held [] (e ∷ es) h = absurd h
   all_held (p ∷ ps) [] h = absurd h
   all_held (p ∷ ps) (e ∷ es) h = (entry_held p e h.0, all_held ps es h.1)
+
+  -- the layout has the table of entries at a position, with the places and the controls that are written of them
+  pub record IsEntryTable (fed : A → List (List ℕ)) (pos : ℕ) (es : List (A × B)) : Type 0 where
+    pub most : ℕ
+    pub places : ℕ
+    pub state : State
+    pub held : HeldAt (table (tuple2 k v)) (both knows others) bytes pos ((map_spelling k v knows others keys vals bytes most places fed).value es state)
+    pub written : 0 < length es → HasWrittenPlaces (tuple2 k v) (both knows others) bytes (tuple2_spelling k keys v vals) most places (map (λ e. input_hash (fed e.0)) es) pos es state
 
   module _ {Q : Type 0} (key : A → Q) (order : Q → Q → Ordering) (key_of : List ℕ → ℕ → Q → Type 0)
       (represents : (x : A) (st : State) (pos : ℕ) → HeldAt k knows bytes pos (keys.value x st) → key_of bytes pos (key x))
@@ -300,23 +308,37 @@ module _ {A B R P : Type 0} (k v : Shape) (knows others : Names → Type 0) (key
           has = λ query some. has_first query (first_with k v knows others keys vals bytes key order query es) refl some;
         }
 
-      pub map_answers : (es : List (A × B)) → IsWrittenMap k v knows others keys vals bytes fed es
-          → AnswersKeys k v knows others keys vals bytes key order hashes key_of (root_position (length bytes) (table (tuple2 k v))) es
-      map_answers [] m =
-          let pos = root_position (length bytes) (table (tuple2 k v)) in
+      pub table_of_entries_answers : (pos : ℕ) (es : List (A × B)) → IsEntryTable fed pos es → AnswersKeys k v knows others keys vals bytes key order hashes key_of pos es
+      table_of_entries_answers pos [] t =
           record {
             buckets = no_buckets;
-            map =
-                empty_table (tuple2 k v) (both knows others) bytes (tuple2_spelling k keys v vals) pos
-                (root_held (table (tuple2 k v)) (both knows others) m.names bytes pos (group no_values) m.regions m.visits m.known m.archive.root);
+            map = empty_table (tuple2 k v) (both knows others) bytes (tuple2_spelling k keys v vals) pos t.held;
             walked = [];
             permuted = IsPermutation-refl [];
             walks = tt;
             finds = λ query hash n found h looks. none_looked_up (Says query) (tuple2 k v) hash n found looks;
             has = λ query some. absurd cc;
           }
-      map_answers (e ∷ es) m =
-          let pos = root_position (length bytes) (table (tuple2 k v)) in
-          table_answers m.most m.places e (e ∷ es) (omega arith) pos
-          (filled_table (tuple2 k v) (both knows others) bytes (tuple2_spelling k keys v vals) m.most m.places (map hash_of (e ∷ es)) m.fit m.binds e es (length-map (e ∷ es) hash_of) (hashes_small (e ∷ es)) m.suits.1
-          m.names m.start pos m.state m.regions m.visits m.known m.archive m.plain)
+      table_of_entries_answers pos (e ∷ es) t =
+          table_answers t.most t.places e (e ∷ es) (omega arith) pos
+          (filled_table (tuple2 k v) (both knows others) bytes (tuple2_spelling k keys v vals) t.most t.places (map hash_of (e ∷ es)) e es (length-map (e ∷ es) hash_of) (hashes_small (e ∷ es)) pos t.state t.held (t.written (omega arith)))
+
+      root_written : (es : List (A × B)) (m : IsWrittenMap k v knows others keys vals bytes fed es) → 0 < length es
+          → HasWrittenPlaces (tuple2 k v) (both knows others) bytes (tuple2_spelling k keys v vals) m.most m.places (map hash_of es) (root_position (length bytes) (table (tuple2 k v))) es m.state
+      root_written [] m some = absurd (omega (arith, some))
+      root_written (e ∷ es) m some =
+          root_places (tuple2 k v) (both knows others) bytes (tuple2_spelling k keys v vals) m.most m.places (map hash_of (e ∷ es)) m.fit m.binds e es (length-map (e ∷ es) hash_of) m.suits.1
+          m.names m.start (root_position (length bytes) (table (tuple2 k v))) m.state m.regions m.visits m.archive m.plain
+
+      pub map_answers : (es : List (A × B)) → IsWrittenMap k v knows others keys vals bytes fed es
+          → AnswersKeys k v knows others keys vals bytes key order hashes key_of (root_position (length bytes) (table (tuple2 k v))) es
+      map_answers es m =
+          let s = table (tuple2 k v) in
+          let pos = root_position (length bytes) s in
+          table_of_entries_answers pos es (record {
+            most = m.most;
+            places = m.places;
+            state = m.state;
+            held = root_held s (both knows others) m.names bytes pos ((map_spelling k v knows others keys vals bytes m.most m.places fed).value es m.state) m.regions m.visits m.known m.archive.root;
+            written = root_written es m;
+          })

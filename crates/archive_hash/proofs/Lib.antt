@@ -7,3 +7,4 @@ mod Reordered
 pub mod Resolved
 mod StdMaps
 pub mod Whole
+pub mod WrittenAt

@@ -1,5 +1,5 @@
--- The table of all entries of a map.
-use Rattle.std.proofs.Common.{◌≡◌, ◌∙◌, ℕ, List, [], ◌∷◌, ◌++◌, append-nil, length, All, refl, ap, ap₂, sym, subst, inl, inr, Result, Err, arith}
+-- The table of all entries of a map, as all items that came are written.
+use Rattle.std.proofs.Common.{◌≡◌, ◌∙◌, ℕ, List, [], ◌∷◌, ◌++◌, append-nil, length, map, All, refl, ap, ap₂, sym, subst, inl, inr, Result, Err, arith}
 use Rattle.std.specs.Iterator.{Yields, Drains}
 use Rattle.std.specs.Map.Iter.{TakesFirst, deref_pair}
 use Rattle.std.proofs.lemmas.Slice.Zip.{AllZip-map}
@@ -43,26 +43,35 @@ pub writes_more : {A B R Q W : Type 0} (came comes : List (A × B) → Type 0) (
 writes_more came comes hash load k v keys vals s claimed old new result more h =
     hashed_more came comes load (written_spelling load (tuple2 k v) (tuple2_spelling k keys v vals)) s (λ e n. n ≡ hash e.0) claimed old new result more h
 
-module _ {A B R Q W : Type 0} (hash : A → ℕ) (k v : Shape) (keys : Spelling A R) (vals : Spelling B Q) (s : WriterMembers W) (es : List (A × B)) (old new : W) (result : Result HashTableResolver Error) where
-  no_memory : result ≡ Err OutOfMemory → new ≡ old → Serializes (entries_spelling hash k v keys vals) s es old new result
+-- items that are claimed by their number, of which all came, are written by the hash of each
+module _ {X P W : Type 0} (spelled : List ℕ → Spelling (List X) P) (hash : X → ℕ) (s : WriterMembers W) (xs : List X) (old new : W) (result : Result P Error) where
+  no_memory : result ≡ Err OutOfMemory → new ≡ old → Serializes (spelled (map hash xs)) s xs old new result
   no_memory is same =
-      let w = entries_spelling hash k v keys vals in
-      let Of : W → Result HashTableResolver Error → Type 0 = λ n r. Serializes w s es old n r in
-      subst (Of new) (sym is) (subst (λ n. Of n (Err OutOfMemory)) (sym same) (λ st at. stopped_before (of_data s) old (w.piece es st) (w.piece_refused es st) OutOfMemory (inl refl)))
+      let w = spelled (map hash xs) in
+      let Of : W → Result P Error → Type 0 = λ n r. Serializes w s xs old n r in
+      subst (Of new) (sym is) (subst (λ n. Of n (Err OutOfMemory)) (sym same) (λ st at. stopped_before (of_data s) old (w.piece xs st) (w.piece_refused xs st) OutOfMemory (inl refl)))
 
-  claimed_all : (xs : List (A × B)) → es ≡ xs → WritesClaimed (written_spelling (7, 8) (tuple2 k v) (tuple2_spelling k keys v vals)) s (λ e h. h ≡ hash e.0) (length es) xs old new result → Serializes (entries_spelling hash k v keys vals) s es old new result
-  claimed_all xs all (inl w) =
-      let Of : List ℕ → Type 0 = λ hs. Serializes (written_spelling (7, 8) (tuple2 k v) (tuple2_spelling k keys v vals) hs) s xs old new result in
-      let written : Serializes (entries_spelling hash k v keys vals) s xs old new result = subst Of (AllZip-map (λ e. hash e.0) xs w.1 w.2) w.3 in
-      subst (λ l. Serializes (entries_spelling hash k v keys vals) s l old new result) (sym all) written
-  claimed_all xs all (inr w) = absurd (w.0 (sym (ap length all)))
+  claimed_all : (ys : List X) → xs ≡ ys → WritesClaimed spelled s (λ x h. h ≡ hash x) (length xs) ys old new result → Serializes (spelled (map hash xs)) s xs old new result
+  claimed_all ys all (inl w) =
+      let Of : List ℕ → Type 0 = λ hs. Serializes (spelled hs) s ys old new result in
+      let written : Serializes (spelled (map hash ys)) s ys old new result = subst Of (AllZip-map hash ys w.1 w.2) w.3 in
+      subst (λ l. Serializes (spelled (map hash l)) s l old new result) (sym all) written
+  claimed_all ys all (inr w) = absurd (w.0 (sym (ap length all)))
 
+  pub all_written : (comes : List X → Type 0) (claimed : ℕ) → ((ys : List X) → comes ys → xs ≡ ys) → claimed ≡ length xs
+      → WritesHashed comes (7, 8) spelled s (λ x h. h ≡ hash x) claimed old new result
+      → Serializes (spelled (map hash xs)) s xs old new result
+  all_written comes claimed all counted (inl r) = absurd (r.0 (omega arith, omega arith))
+  all_written comes claimed all counted (inr (load, inl r)) = no_memory r.0 r.1
+  all_written comes claimed all counted (inr (load, inr w)) =
+      let Of : ℕ → Type 0 = λ n. WritesClaimed spelled s (λ x h. h ≡ hash x) n w.0 old new result in
+      claimed_all w.0 (all w.0 w.1) (subst Of counted w.2)
+
+module _ {A B R Q W : Type 0} (hash : A → ℕ) (k v : Shape) (keys : Spelling A R) (vals : Spelling B Q) (s : WriterMembers W) (es : List (A × B)) (old new : W) (result : Result HashTableResolver Error) where
   -- the number of entries that are claimed is the length of their list: the table of them was written
   pub whole_written : (from : List (A × B)) (claimed : ℕ) → from ≡ es → claimed ≡ length es
       → WritesEntries (Drains (GivesAs deref_pair (TakesFirst deref_pair)) from) hash (7, 8) k v keys vals s claimed old new result
       → Serializes (entries_spelling hash k v keys vals) s es old new result
-  whole_written from claimed is counted (inl r) = absurd (r.0 (omega arith, omega arith))
-  whole_written from claimed is counted (inr (load, inl r)) = no_memory r.0 r.1
-  whole_written from claimed is counted (inr (load, inr w)) =
-      let Of : ℕ → Type 0 = λ n. WritesClaimed (written_spelling (7, 8) (tuple2 k v) (tuple2_spelling k keys v vals)) s (λ e h. h ≡ hash e.0) n w.0 old new result in
-      claimed_all w.0 (sym is ∙ drained_all deref_pair from w.0 w.1) (subst Of counted w.2)
+  whole_written from claimed is counted h =
+      all_written (written_spelling (7, 8) (tuple2 k v) (tuple2_spelling k keys v vals)) (λ e. hash e.0) s es old new result
+      (Drains (GivesAs deref_pair (TakesFirst deref_pair)) from) claimed (λ xs d. sym is ∙ drained_all deref_pair from xs d) counted h

@@ -12,7 +12,7 @@ use std::num::{NonZeroI8, NonZeroU8};
 
 /// A type of archived keys that maps with keys of type `K` are written by, and that are looked up by queries of type
 /// `Q`.
-pub trait HashedKeyOf<K: Archive + Ord + Hash, Q: Hash>: KeyOf<K, Q> + HashedKey<Q> {
+pub trait HashedKeyOf<K: Archive + Hash, Q: Hash>: KeyOf<K, Q> + HashedKey<Q> {
     /// A value feeds the same to a hasher as its key.
     ghost hashed_as_key: { (x : K) → K.hash_input x ≡ Q.hash_input (Self.key x) };
 }
@@ -65,8 +65,8 @@ impl HashedKeyOf<BoxedStr, BoxedStr> for ArchivedBoxedStr {
 
 /// Pairs.
 impl<
-    K: Archive + Ord + Hash,
-    L: Archive + Ord + Hash,
+    K: Archive + Hash,
+    L: Archive + Hash,
     P: Hash,
     Q: Hash,
     A: HashedKeyOf<K, P>,

@@ -1,7 +1,7 @@
 //! The laws of all parts of `archive_hash`. Each is a function with an empty body, whose contract is the law.
 ghost use Rattle.archive_forms.specs.Alike.{AlikeAreEqual};
 ghost use Rattle.archive_forms.specs.Faithful.{AreFaithful};
-ghost use Rattle.archive_hash.specs.Calls.Laws.{WrittenMapAnswers, MapsAreReadBack, SetsAreReadBack};
+ghost use Rattle.archive_hash.specs.Calls.Laws.{WrittenMapAnswers, MapWrittenAtAnswers, SetWrittenAtAnswers, MapsAreReadBack, SetsAreReadBack};
 
 use crate::keys::HashedKeyOf;
 use crate::{OwnedHashMap, OwnedHashSet};
@@ -21,11 +21,24 @@ use std::hash::{Hash, Hasher};
 
 /// The archive of a map has the entries that it was written of: they are its items, in some order, and a look-up of a
 /// key returns the first entry with the key, and nothing if there is none. Each key can be passed to `index`.
-pub fn written_map_answers<Q: Hash, K: Archive + Ord + Hash, V: Archive>()
+pub fn written_map_answers<Q: Hash, K: Archive + Hash, V: Archive>()
 where
     K::Archived: HashedKeyOf<K, Q>,
     ensures { WrittenMapAnswers K.Archived.HashedKey K.Archived.key V.Archived.Portable K.spelling V.spelling K.Hash Q.Hash
         ⟦<FxHasher64 as Default>⟧ ⟦<FxHasher64 as Hasher>⟧ }
+{}
+
+/// A map that was written anywhere in an archive, as in a struct, a list or another map, has the entries that it was
+/// written of, as [`written_map_answers`] states of the root, and a set has its keys. Each must suit the fit that binds
+/// nothing, as all do where no key and no value holds a shared pointer; how the table is filled need not be known. The
+/// shared values that were written before its data must have their values before it, and its own bytes must lie after it.
+pub fn map_written_at_answers<Q: Hash, K: Archive + Eq + Hash, V: Archive>()
+where
+    K::Archived: HashedKeyOf<K, Q>,
+    ensures maps { MapWrittenAtAnswers K.Archived.HashedKey K.Archived.key K.spelling Q.Hash ⟦<FxHasher64 as Default>⟧
+        ⟦<FxHasher64 as Hasher>⟧ V.Archived.Portable V.spelling ⟦<OwnedHashMap<K, V> as Archive>⟧ }
+    ensures sets { SetWrittenAtAnswers K.Archived.HashedKey K.Archived.key K.spelling Q.Hash ⟦<FxHasher64 as Default>⟧
+        ⟦<FxHasher64 as Hasher>⟧ ⟦<OwnedHashSet<K> as Archive>⟧ }
 {}
 
 /// What a map of std is archived as is read back as maps that have its entries, in some order, and a set as sets that have

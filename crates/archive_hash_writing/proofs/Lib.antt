@@ -37,4 +37,5 @@ pub mod TextHash
 pub mod WholeRegion
 pub mod WholeTable
 pub mod WrittenItems
+pub mod WrittenPlaces
 pub mod Many

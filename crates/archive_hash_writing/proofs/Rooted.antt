@@ -65,7 +65,7 @@ module _ (fit : Fit) (names : Names) (bytes : List ℕ) where
     pub after : List Visit
     pub all : HoldAll names bytes level inside ps vs regions before after
 
-  plain_settled : {level : ℕ} {inside : List OpenShared} {p : Part} {v : Value} {regions : List Region} {before after : List Visit}
+  pub plain_settled : {level : ℕ} {inside : List OpenShared} {p : Part} {v : Value} {regions : List Region} {before after : List Visit}
       (l : Label) (ps : List Part) (low : ℕ) → content_of names bytes p ≡ plain l ps
       → (h : Holds names bytes level inside p v regions before after) → IsCanonical fit h low → SettledHolds level inside before p l ps v
   plain_settled {level} {inside} {p} {v} {regions} {before} {after} l ps low is (holds_plain {l = k} {ps = qs} {vs = vs} e legal all m) c =

@@ -1,4 +1,4 @@
--- A written table that is the root of its archive: its places, its controls, and the item that lies at each place.
+-- A written table: its places, its controls, and the item that lies at each place, at the root of an archive or anywhere.
 use Rattle.std.proofs.Common.{◌≡◌, ◌∙◌, ℕ, zero, suc, ◌+◌, ◌^◌, ◌<◌, ◌≤◌, Bool, true, false, cond, Option, Some, None, List, [], ◌∷◌, length, map, filter, get_or, slice_index, inl, inr, refl, ap, sym, subst, arith, lt-ltb, ltb-true}
 use Rattle.std.specs.Prelude.{nat_lt}
 use Rattle.std.specs.List.{All, AllZip, range_with_len, cons_option}
@@ -27,7 +27,6 @@ use Rattle.archive_hash_probing.proofs.FirstFits.{written_low}
 use Rattle.archive_forms_laws.specs.State.{State}
 use Rattle.archive_forms_laws.specs.Spelling.{Spelling, state_after}
 use Rattle.archive_forms_laws.specs.Regions.{values, plain_values}
-use Rattle.archive_forms_values.proofs.Rooted.{root_held}
 use Rattle.archive_forms_values.proofs.Targets.{first_word}
 use Rattle.archive_hash_maps.specs.Tables.{Buckets, no_buckets, full_places, item_position, item_positions, IsTableAt, AreItemsAt}
 use Rattle.archive_hash_maps.specs.Tables.IsTableAt.{has_none, has_buckets}
@@ -127,50 +126,60 @@ module _ {A R : Type 0} (s : Shape) (knows : Names → Type 0) (bytes : List ℕ
       pub each : (i : ℕ) (d : A) → i < length xs → HasItem s knows bytes w (item_position s buckets.target (get_or (places_of most places hashes xs) i 0)) (get_or xs i d)
       pub all : AllZip (HasItem s knows bytes w) (item_positions s buckets) (by_place most places hashes xs)
 
-    module _ (fit : Fit) (binds : fit.binds ≡ true) (x : A) (xs : List A) (even : length hashes ≡ suc (length xs)) (tags : All (λ h. h < 2 ^ 64) hashes) (filled_by : IsFilledBy most places s w hashes fit (x ∷ xs))
-        (names : Names) (start pos : ℕ) (st : State) (regions : List Region) (visits : List Visit) (known : knows names)
-        (archive : CanonicalArchive fit names bytes start pos (table s) (group (values w (by_place most places hashes (x ∷ xs)) st)) regions visits)
-        (plain_is : erased (group (values w (by_place most places hashes (x ∷ xs)) st)) ≡ group (plain_values w (by_place most places hashes (x ∷ xs)))) where
+    -- the values of the items of a table, by ascending place
+    abbrev Listed : List A → State → Values
+    Listed xs st = values w (by_place most places hashes xs) st
+
+    -- where a table has items, it has the places and the controls that are written of them
+    abbrev pub HasWrittenPlaces : ℕ → List A → State → Type 0
+    HasWrittenPlaces pos xs st =
+        (b : Buckets) → IsTableAt bytes s pos b → AreItemsAt s knows bytes (item_positions s b) (Listed xs st)
+        → (b.cap ≡ capacity_of most places hashes xs) × (b.controls ≡ controls_of most places hashes xs)
+
+    -- as at the root of an archive, where a fit fills it
+    module _ (fit : Fit) (binds : fit.binds ≡ true) (x : A) (xs : List A) (even : length hashes ≡ suc (length xs)) (filled_by : IsFilledBy most places s w hashes fit (x ∷ xs))
+        (names : Names) (start pos : ℕ) (st : State) (regions : List Region) (visits : List Visit)
+        (archive : CanonicalArchive fit names bytes start pos (table s) (group (Listed (x ∷ xs) st)) regions visits)
+        (plain_is : erased (group (Listed (x ∷ xs) st)) ≡ group (plain_values w (by_place most places hashes (x ∷ xs)))) where
       filled : IsFilledSo most places s w hashes fit x xs
       filled = subst (λ b. IsAsked b (IsFilledSo most places s w hashes fit x xs)) binds filled_by
 
-      abbrev Cap : ℕ
-      Cap = capacity_of most places hashes (x ∷ xs)
-
-      abbrev Places : List ℕ
-      Places = places_of most places hashes (x ∷ xs)
-
-      abbrev Items : Values
-      Items = values w (by_place most places hashes (x ∷ xs)) st
-
-      count : count_values Items ≡ length (x ∷ xs)
+      count : count_values (Listed (x ∷ xs) st) ≡ length (x ∷ xs)
       count = count_of w (by_place most places hashes (x ∷ xs)) st ∙ length-by_place most places hashes (x ∷ xs) even (omega arith)
 
-      as_written : (b : Buckets) → IsTableAt bytes s pos b → AreItemsAt s knows bytes (item_positions s b) Items → (b.cap ≡ Cap) × (b.controls ≡ controls_of most places hashes (x ∷ xs))
-      as_written b (has_none z is) items =
-          let none = items_none Items (subst (λ (c : Buckets). AreItemsAt s knows bytes (item_positions s c) Items) is items) in
+      pub root_places : HasWrittenPlaces pos (x ∷ xs) st
+      root_places b (has_none z is) items =
+          let none = items_none (Listed (x ∷ xs) st) (subst (λ (c : Buckets). AreItemsAt s knows bytes (item_positions s c) (Listed (x ∷ xs) st)) is items) in
           absurd (let some = count in omega (arith, none, some))
-      as_written b (has_buckets some leads cap_is fewer shown within room are full) items =
+      root_places b (has_buckets some leads cap_is fewer shown within room are full) items =
           let len = word_at bytes (pos + 4) in
           let content =
           filled_content names bytes s pos len b.cap b.target (word_within bytes pos 12 4 (omega arith)) (word_within bytes pos 12 8 (omega arith) ∙ cap_is) (omega (arith, some)) fewer
           (ap (target_from pos) (first_word bytes pos 12 (omega arith)) ∙ leads)
           in
           let parts = buckets b.target len b.cap (item s) ∷ [] in
-          let root = root_settled fit names bytes start pos (table s) (group Items) regions visits same parts archive content in
-          let one : root.vs ≡ more_values (group Items) no_values = made_one root.vs (group Items) root.is_made in
-          let chosen : IsFilledAs (choices fit) bytes b.target len b.cap (more_values (group Items) no_values) =
-          settled_chosen fit binds bytes (at pos (table s)) parts (more_values (group Items) no_values) (subst (IsSettled fit bytes (at pos (table s)) parts) one root.settled) in
+          let root = root_settled fit names bytes start pos (table s) (group (Listed (x ∷ xs) st)) regions visits same parts archive content in
+          let one : root.vs ≡ more_values (group (Listed (x ∷ xs) st)) no_values = made_one root.vs (group (Listed (x ∷ xs) st)) root.is_made in
+          let chosen : IsFilledAs (choices fit) bytes b.target len b.cap (more_values (group (Listed (x ∷ xs) st)) no_values) =
+          settled_chosen fit binds bytes (at pos (table s)) parts (more_values (group (Listed (x ∷ xs) st)) no_values) (subst (IsSettled fit bytes (at pos (table s)) parts) one root.settled) in
           let len_is : len ≡ length (x ∷ xs) = sym chosen.0 ∙ count in (
             chosen.1 ∙ ap fit.capacity len_is ∙ filled.0,
             shown ∙ chosen.2 ∙ ap (λ (v : Value). fit.table_controls (keys_alone (members v))) plain_is ∙ filled.1,
           )
 
+    module _ (x : A) (xs : List A) (even : length hashes ≡ suc (length xs)) (tags : All (λ h. h < 2 ^ 64) hashes) (pos : ℕ) (st : State)
+        (held : HeldAt (table s) knows bytes pos (group (Listed (x ∷ xs) st))) (written : HasWrittenPlaces pos (x ∷ xs) st) where
+      abbrev Cap : ℕ
+      Cap = capacity_of most places hashes (x ∷ xs)
+
+      abbrev Places : List ℕ
+      Places = places_of most places hashes (x ∷ xs)
+
       pub filled_table : IsFilledTable pos (x ∷ xs)
       filled_table =
-          let r = table_is_read s knows bytes pos (group Items) (root_held (table s) knows names bytes pos (group Items) regions visits known archive.root) in
+          let r = table_is_read s knows bytes pos (group (Listed (x ∷ xs) st)) held in
           let b = r.buckets in
-          let is = as_written b r.table r.items in
+          let is = written b r.table r.items in
           let tagged : (p : ℕ) → 0 ≤ p → p < 0 + Cap → IsTagOf (item_at (x ∷ xs) Places p) (slice_index b.controls p) = λ p from below.
           let control : slice_index b.controls p ≡ control_at hashes Places p = ap (λ cs. get_or cs p 0) is.1 ∙ written_low Cap hashes Places p (omega (arith, below)) in
           subst (IsTagOf (item_at (x ∷ xs) Places p)) (sym control) (item_tagged hashes (x ∷ xs) Places p even tags)
@@ -178,7 +187,7 @@ module _ {A R : Type 0} (s : Shape) (knows : Names → Type 0) (bytes : List ℕ
           let places_full : ℕ → List ℕ = λ n. filter (λ p. nat_lt (slice_index b.controls p) 128) (range_with_len 0 n) in
           let there =
           items_lie s knows bytes w b.target b.controls (item_at (x ∷ xs) Places) Cap 0 st tagged
-          (subst (λ n. AreItemsAt s knows bytes (map (item_position s b.target) (places_full n)) Items) is.0 r.items)
+          (subst (λ n. AreItemsAt s knows bytes (map (item_position s b.target) (places_full n)) (Listed (x ∷ xs) st)) is.0 r.items)
           in
           record {
             buckets = b;

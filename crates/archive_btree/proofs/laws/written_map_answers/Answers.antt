@@ -10,4 +10,4 @@ returns g c bytes some m =
     (λ x st pos h. g.met.K.Archived.KeyOf.represents x st bytes pos m.archive.bytes_are h)
     (λ pos a b x y query. g.met.K.Archived.ArchivedKey.one_key bytes pos a b x y query)
     es some m
-    (keys_ascend g.K.Ord.cmp g.K.Archived.KeyOf.key g.K.Archived.ArchivedKey.order g.met.K.Archived.KeyOf.in_order es c.len-len.ensures.ordered)
+    (keys_ascend g.K.Ord.cmp g.K.Archived.KeyOf.key g.K.Archived.ArchivedKey.order g.met.K.Archived.OrderedKeyOf.in_order es c.len-len.ensures.ordered)
