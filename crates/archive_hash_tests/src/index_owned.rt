@@ -1,14 +1,15 @@
-//! Tests of pairs that are archived as index maps: their bytes, and which entry is found of a key that occurs twice.
+//! Tests of pairs that are archived as index maps, and keys as index sets: their bytes, and which entry is found of a key
+//! that occurs twice.
 ghost use Rattle.std.specs.Prelude.{IfOk};
 ghost use Rattle.archive_index.specs.Answering.{IsWrittenMap};
 
-use crate::index_maps::{NOTHING, Numbers, TWO};
-use crate::index_writing::numbered;
+use crate::index_maps::{NOTHING, Numbers, TWO, TWO_KEYS};
+use crate::index_writing::{numbered, owned};
 use crate::reading::root_of;
 use archive_core::{Archive, to_bytes};
 use archive_forms_values::{ArchivedString, native_of};
 use archive_index::laws::owned_map_is_written;
-use archive_index::{ArchivedIndexMap, OwnedIndexMap};
+use archive_index::{ArchivedIndexMap, OwnedIndexMap, OwnedIndexSet};
 use archive_shape::{ArchivedU32, Error, Portable};
 use std::alloc::Global;
 use std::hash::Hash;
@@ -40,6 +41,25 @@ fn is_written(alloc: Global, texts: &[&str], expected: &[u8]) -> bool {
 #[test]
 fn pairs_are_archived_in_their_order(rt: HostRuntime) {
     assert!(rt; is_written(rt.alloc(), &["z", "a"], &TWO) && is_written(rt.alloc(), &[], &NOTHING));
+}
+
+/// Returns whether the index set of texts has this archive.
+fn is_set_written(alloc: Global, texts: &[&str], expected: &[u8]) -> bool {
+    let Some(keys) = owned(alloc, texts) else {
+        return false;
+    };
+    match to_bytes(alloc, &OwnedIndexSet { keys }) {
+        Ok(bytes) => bytes.as_slice() == expected,
+        Err(_) => false,
+    }
+}
+
+#[test]
+fn keys_are_archived_in_their_order(rt: HostRuntime) {
+    assert!(rt;
+        is_set_written(rt.alloc(), &["z", "a"], &TWO_KEYS)
+            && is_set_written(rt.alloc(), &[], &NOTHING)
+    );
 }
 
 /// Returns whether each look-up of a text in the index map of texts, each with its number, finds this number and no other.

@@ -1,4 +1,4 @@
--- A written index map that is the root of its archive: the places and the controls of its table, the number at each place, and the entry of each number.
+-- An index map where it was written: the places and the controls of its table, the number at each place, and the entry of each number.
 use Rattle.std.proofs.Common.{true, ◌≡◌, ◌∙◌, ℕ, zero, suc, ◌+◌, ◌^◌, ◌<◌, ◌≤◌, Some, List, [], ◌∷◌, length, map, filter, get_or, slice_index, nat_lt, refl, ap, sym, subst, arith}
 use Rattle.std.specs.List.{All, range_with_len}
 use Rattle.std.proofs.lemmas.List.FromFn.{length-range_with_len, get_or-range_with_len}
@@ -10,9 +10,10 @@ use Rattle.archive_shape_layout.specs.Shape.Pointee.{slice}
 use Rattle.archive_shape_layout.specs.Value.{Value, Values, count_values}
 use Rattle.archive_shape_layout.specs.Value.Value.{natural, group}
 use Rattle.archive_shape_layout.specs.Value.Values.{no_values, more_values}
-use Rattle.archive_shape_layout.specs.Content.{Names, Part, made, members}
+use Rattle.archive_shape_layout.specs.Content.{Names, Part, Label, content_of, made, members}
 use Rattle.archive_shape_layout.specs.Content.Item.{place}
 use Rattle.archive_shape_layout.specs.Content.Part.{at, behind, buckets}
+use Rattle.archive_shape_layout.specs.Content.Content.{plain}
 use Rattle.archive_shape_layout.specs.Content.Label.{same, second}
 use Rattle.archive_shape_layout.specs.Holds.{Region, Visit, Holds, HasRoot}
 use Rattle.archive_shape_layout.specs.Path.{value_in}
@@ -41,7 +42,7 @@ use Rattle.archive_hash_maps.specs.Tables.{Buckets, full_places, item_position, 
 use Rattle.archive_hash_maps.specs.Tables.IsTableAt.{has_none, has_buckets}
 use Rattle.archive_hash_maps.proofs.Read.{table_is_read, one_table}
 use Rattle.archive_hash_writing.specs.Fitted.{capacity_of, places_of, by_place, controls_of}
-use Rattle.archive_hash_writing.proofs.Rooted.{root_settled}
+use Rattle.archive_hash_writing.proofs.Rooted.{SettledHolds, root_settled}
 use Rattle.archive_hash_writing.proofs.SpellingPresent.{item_own}
 use Rattle.archive_hash_writing.proofs.SpellingFitting.{length-places, places_below, are_apart}
 use Rattle.archive_hash_writing.proofs.Tagged.{IsTagOf, item_tagged}
@@ -98,6 +99,21 @@ module _ {A R : Type 0} (k v : Shape) (knows others : Names → Type 0) (bytes :
         holds = subst (λ x. Holds names bytes 1 [] (at pos (index_map k v)) x says.within [] visits) is one.holds;
       }
 
+  -- the layout has a map at a position, and a fit settles what the layout leaves open there
+  pub record IsSettledMap (fit : Fit) (pos : ℕ) (value : Value) : Type 0 where
+    pub held : HeldAt (index_map k v) (both knows others) bytes pos value
+    pub settled :
+        (l : Label) (ps : List Part) → content_of held.names bytes (at pos (index_map k v)) ≡ plain l ps
+        → SettledHolds fit held.names bytes held.level held.inside held.before (at pos (index_map k v)) l ps value
+
+  -- so it is at the root of the archive of the map
+  pub root_map : (fit : Fit) (names : Names) (start pos : ℕ) (value : Value) (regions : List Region) (visits : List Visit) → both knows others names
+      → CanonicalArchive fit names bytes start pos (index_map k v) value regions visits → IsSettledMap fit pos value
+  root_map fit names start pos value regions visits known archive = record {
+    held = held_at_root names pos value regions visits known archive.root;
+    settled = λ l ps content. root_settled fit names bytes start pos (index_map k v) value regions visits l ps archive content;
+  }
+
   module _ (most places : ℕ) (hashes : List ℕ) where
     -- each number lies at its place, and each entry where its number leads
     pub record IsFilledMap (pos : ℕ) (xs : List A) : Type 0 where
@@ -110,8 +126,7 @@ module _ {A R : Type 0} (k v : Shape) (knows others : Names → Type 0) (bytes :
       pub each : (i : ℕ) (d : A) → i < length xs → HasItem pair (both knows others) bytes w (entry_position k v map i) (get_or xs i d)
 
     module _ (fit : Fit) (binds : fit.binds ≡ true) (x : A) (xs : List A) (even : length hashes ≡ suc (length xs)) (tags : All (λ h. h < 2 ^ 64) hashes) (kept_by : IsKeptBy most places pair w hashes fit (x ∷ xs))
-        (names : Names) (start pos : ℕ) (st : State) (regions : List Region) (visits : List Visit) (known : both knows others names)
-        (archive : CanonicalArchive fit names bytes start pos (index_map k v) (group (values w (x ∷ xs) st)) regions visits)
+        (pos : ℕ) (st : State) (there : IsSettledMap fit pos (group (values w (x ∷ xs) st)))
         (plain_is : erased (group (values w (x ∷ xs) st)) ≡ group (plain_values w (x ∷ xs))) where
       kept : IsKeptSo most places pair w hashes fit x xs
       kept = subst (λ b. IsAsked b (IsKeptSo most places pair w hashes fit x xs)) binds kept_by
@@ -132,7 +147,7 @@ module _ {A R : Type 0} (k v : Shape) (knows others : Names → Type 0) (bytes :
       Places = places_of most places hashes Numbers
 
       abbrev held : HeldAt (index_map k v) (both knows others) bytes pos (group Items)
-      held = held_at_root names pos (group Items) regions visits known archive.root
+      held = there.held
 
       long : length Numbers ≡ length all
       long = length-range_with_len 0 (length all)
@@ -157,16 +172,16 @@ module _ {A R : Type 0} (k v : Shape) (knows others : Names → Type 0) (bytes :
               let n = length all in
               let len_is : len ≡ n = sym full ∙ count in
               let leads = stands.leads (λ e. absurd (omega (arith, e, count))) in
-              let content = filled_content names bytes k v pos len b.cap b.target m.start (word_within bytes pos 16 4 (omega arith)) (word_within bytes pos 16 8 (omega arith) ∙ cap_is) (omega (arith, len_is)) fewer
+              let content = filled_content held.names bytes k v pos len b.cap b.target m.start (word_within bytes pos 16 4 (omega arith)) (word_within bytes pos 16 8 (omega arith) ∙ cap_is) (omega (arith, len_is)) fewer
               (ap (target_from pos) (first_word bytes pos 16 (omega arith)) ∙ target) (ap (target_from (pos + 12)) (word_within bytes pos 16 12 (omega arith)) ∙ leads) in
               let parts : List Part = buckets b.target len b.cap (place len) ∷ (behind m.start (slice pair) len ∷ []) in
-              let root = root_settled fit names bytes start pos (index_map k v) (group Items) regions visits second parts archive content in
+              let found = there.settled second parts content in
               let read = read_so k v knows others bytes pos (group Items) held in
-              let first = read.first parts root.vs root.regions root.after content root.all in
-              let last : first.0 ≡ group Items = made_two read.numbers (group Items) first.0 (subst (λ vs. made second vs ≡ Some (group Items)) first.1 root.is_made) in
-              let are_two : root.vs ≡ more_values read.numbers (more_values (group Items) no_values) = first.1 ∙ ap (λ u. more_values read.numbers (more_values u no_values)) last in
+              let first = read.first parts found.vs found.regions found.after content found.all in
+              let last : first.0 ≡ group Items = made_two read.numbers (group Items) first.0 (subst (λ vs. made second vs ≡ Some (group Items)) first.1 found.is_made) in
+              let are_two : found.vs ≡ more_values read.numbers (more_values (group Items) no_values) = first.1 ∙ ap (λ u. more_values read.numbers (more_values u no_values)) last in
               let chosen : IsFilledAs (choices fit) bytes b.target len b.cap (more_values read.numbers (more_values (group Items) no_values)) =
-              settled_chosen fit binds bytes (at pos (index_map k v)) parts (more_values read.numbers (more_values (group Items) no_values)) (subst (IsSettled fit bytes (at pos (index_map k v)) parts) are_two root.settled) in
+              settled_chosen fit binds bytes (at pos (index_map k v)) parts (more_values read.numbers (more_values (group Items) no_values)) (subst (IsSettled fit bytes (at pos (index_map k v)) parts) are_two found.settled) in
               let caps : capacity_of most places hashes all ≡ Cap = ap (λ m. capacity_for m most places) (sym long) in
               record {
                 cap_is = chosen.1 ∙ ap fit.capacity len_is ∙ kept.0 ∙ caps;
@@ -183,10 +198,10 @@ module _ {A R : Type 0} (k v : Shape) (knows others : Names → Type 0) (bytes :
           let is = as_written r.map r.stands count in
           let so = read_so k v knows others bytes pos (group Items) held in
           let table = table_is_read number_shape KnowsAll bytes pos so.numbers so.table_held in
-          let there : AreItemsAt number_shape KnowsAll bytes (item_positions number_shape b) (members so.numbers) =
+          let items : AreItemsAt number_shape KnowsAll bytes (item_positions number_shape b) (members so.numbers) =
           subst (λ (c : Buckets). AreItemsAt number_shape KnowsAll bytes (item_positions number_shape c) (members so.numbers)) (one_table bytes number_shape pos table.buckets b table.table r.stands.table) table.items in
           let held_numbers : AreItemsAt number_shape KnowsAll bytes (item_positions number_shape b) (values number_spelling (by_place most places hashes Numbers) initial) =
-          subst (AreItemsAt number_shape KnowsAll bytes (item_positions number_shape b)) (is.numbers_is ∙ sym (numbers_are (by_place most places hashes Numbers) initial)) there in
+          subst (AreItemsAt number_shape KnowsAll bytes (item_positions number_shape b)) (is.numbers_is ∙ sym (numbers_are (by_place most places hashes Numbers) initial)) items in
           let tagged : (p : ℕ) → 0 ≤ p → p < 0 + Cap → IsTagOf (item_at Numbers Places p) (slice_index b.controls p) = λ p from below.
           let control : slice_index b.controls p ≡ control_at hashes Places p = ap (λ cs. get_or cs p 0) is.controls_are ∙ written_low Cap hashes Places p (omega (arith, below)) in
           subst (IsTagOf (item_at Numbers Places p)) (sym control) (item_tagged hashes Numbers Places p even_numbers tags) in

@@ -1,3 +1,4 @@
+pub mod Drained
 pub mod Faithful
 pub mod Filled
 pub mod InOrder

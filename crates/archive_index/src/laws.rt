@@ -1,11 +1,12 @@
 //! Laws of index maps that are written and read back. Each function below has no body: its contract is the law.
 ghost use Rattle.std.specs.Prelude.{◌≡◌};
-ghost use Rattle.archive_forms.specs.Faithful.{IsFaithful};
+ghost use Rattle.archive_forms.specs.Faithful.{AreFaithful, IsFaithful};
 ghost use Rattle.archive_forms_laws.specs.Orders.{no_fields_equality, no_fields_hashed, more_fields_equality, more_fields_hashed, tuple_equality, tuple_hashed, unit_equality, vector_equality, vector_hashed};
-ghost use Rattle.archive_index.specs.Calls.Laws.{MapsAreFaithful, MapsAreReadBack, OwnedMapIsWritten, PlainMapIsWritten, SetsAreFaithful, SetsAreReadBack, WrittenMapAnswers};
+ghost use Rattle.archive_index.specs.Calls.Laws.{MapWrittenAtAnswers, MapsAreFaithful, MapsAreReadBack, OwnedMapIsWritten, OwnedMapsAreReadBack, OwnedSetsAreReadBack, PlainMapIsWritten, SetWrittenAtAnswers, SetsAreFaithful, SetsAreReadBack, WrittenMapAnswers};
 
 use crate::map::ArchivedIndexMap;
 use crate::set::ArchivedIndexSet;
+use crate::{OwnedIndexMap, OwnedIndexSet};
 use archive_forms::ReadBack;
 use archive_forms_comparing::{ArchivedEq, ArchivedHash};
 use archive_forms_writing::Archive;
@@ -15,10 +16,23 @@ use std::hash::{Hash, Hasher};
 
 /// States that the archive of an index map has the entries that it was written of, in their order, and that a look-up of
 /// a key finds the number of the first entry with the key, and nothing if there is none.
-pub fn written_map_answers<Q: Hash, K: Archive + Ord + Hash, V: Archive>()
+pub fn written_map_answers<Q: Hash, K: Archive + Hash, V: Archive>()
 where
     K::Archived: HashedKeyOf<K, Q>,
     ensures { WrittenMapAnswers K.Archived.HashedKey K.Archived.key V.Archived.Portable K.spelling V.spelling K.Hash Q.Hash
+        ⟦<FxHasher64 as Default>⟧ ⟦<FxHasher64 as Hasher>⟧ }
+{}
+
+/// States that an index map that was written anywhere in an archive, as in a struct, a list or another map, has the entries
+/// that it was written of, as by [`written_map_answers`] the map that is the root of an archive, and a set has its keys. Each
+/// fit has to suit all keys and values; which fit fills the table as it is written need not be known. The shared values that
+/// were written before the map stand in the archive before its data, and its own bytes after it.
+pub fn map_written_at_answers<Q: Hash, K: Archive + Hash, V: Archive>()
+where
+    K::Archived: HashedKeyOf<K, Q>,
+    ensures maps { MapWrittenAtAnswers K.Archived.HashedKey K.Archived.key K.spelling K.Hash Q.Hash
+        ⟦<FxHasher64 as Default>⟧ ⟦<FxHasher64 as Hasher>⟧ V.Archived.Portable V.spelling }
+    ensures sets { SetWrittenAtAnswers K.Archived.HashedKey K.Archived.key K.spelling K.Hash Q.Hash
         ⟦<FxHasher64 as Default>⟧ ⟦<FxHasher64 as Hasher>⟧ }
 {}
 
@@ -30,8 +44,8 @@ pub fn owned_map_is_written<K: Archive + Hash, V: Archive>()
     ensures plain { PlainMapIsWritten K.Archived.Portable V.Archived.Portable K.spelling V.spelling K.Hash }
 {}
 
-/// States that index maps and sets are read back as lists that are archived as the values they were read of, where their
-/// keys and values are. Only the entries and their order are meant: the places of a stranger's table need not be those of
+/// States that index maps and sets are read back as lists, and as an `OwnedIndexMap` and an `OwnedIndexSet`, that are
+/// archived as the values they were read of, where their keys and values are. Only the entries and their order are meant: the places of a stranger's table need not be those of
 /// a written one.
 pub fn index_maps_are_faithful<K: Archive + Hash, V: Archive, A: ReadBack<K>, B: ReadBack<V>>()
     requires keys { IsFaithful K.spelling A.reads }
@@ -40,6 +54,10 @@ pub fn index_maps_are_faithful<K: Archive + Hash, V: Archive, A: ReadBack<K>, B:
         ⟦<ArchivedIndexMap<A, B, FxHasher64> as ReadBack<Vec<(K, V)>>>⟧ }
     ensures sets { SetsAreFaithful K.Hash K.Archived.shape K.spelling
         ⟦<ArchivedIndexSet<A, FxHasher64> as ReadBack<Vec<K>>>⟧ }
+    ensures owned_maps { AreFaithful ⟦<OwnedIndexMap<K, V> as Archive>⟧
+        ⟦<ArchivedIndexMap<A, B, FxHasher64> as ReadBack<OwnedIndexMap<K, V>>>⟧ }
+    ensures owned_sets { AreFaithful ⟦<OwnedIndexSet<K> as Archive>⟧
+        ⟦<ArchivedIndexSet<A, FxHasher64> as ReadBack<OwnedIndexSet<K>>>⟧ }
 {}
 
 /// States that index maps and sets are equal where they have the same number of entries and these are equal one by one,
@@ -59,7 +77,7 @@ pub fn index_maps_are_hashed_in_order<K: ArchivedHash, V: ArchivedHash, H>()
 
 /// What an index map is archived as is read back as lists that have its pairs, in order, and what an index set is as lists
 /// that have its keys: no more, no fewer and no others. They are the same values where values of their types that are
-/// archived alike are one.
+/// archived alike are one. So are an `OwnedIndexMap` and an `OwnedIndexSet`.
 pub fn index_maps_are_read_back<K: Archive + Hash, V: Archive, A: ReadBack<K>, B: ReadBack<V>>()
     requires keys { IsFaithful K.spelling A.reads }
     requires values { IsFaithful V.spelling B.reads }
@@ -67,4 +85,8 @@ pub fn index_maps_are_read_back<K: Archive + Hash, V: Archive, A: ReadBack<K>, B
         ⟦<ArchivedIndexMap<A, B, FxHasher64> as ReadBack<Vec<(K, V)>>>⟧ }
     ensures sets { SetsAreReadBack K.Hash K.Archived.shape K.spelling
         ⟦<ArchivedIndexSet<A, FxHasher64> as ReadBack<Vec<K>>>⟧ }
+    ensures owned_maps { OwnedMapsAreReadBack ⟦<OwnedIndexMap<K, V> as Archive>⟧
+        ⟦<ArchivedIndexMap<A, B, FxHasher64> as ReadBack<OwnedIndexMap<K, V>>>⟧ K.spelling V.spelling }
+    ensures owned_sets { OwnedSetsAreReadBack ⟦<OwnedIndexSet<K> as Archive>⟧
+        ⟦<ArchivedIndexSet<A, FxHasher64> as ReadBack<OwnedIndexSet<K>>>⟧ K.spelling }
 {}

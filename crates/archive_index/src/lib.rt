@@ -6,6 +6,7 @@ mod check;
 pub mod laws;
 pub mod map;
 mod owned;
+mod owned_set;
 pub mod set;
 mod writing;
 
@@ -16,5 +17,6 @@ pub use map::{
     search_entries,
 };
 pub use owned::OwnedIndexMap;
+pub use owned_set::OwnedIndexSet;
 pub use set::{ArchivedIndexSet, IndexSetResolver, deserialize_index_set_each};
 pub use writing::{serialize_entries_with_each, serialize_from_iter_scan_each};

@@ -1,4 +1,4 @@
-//! Pairs that are archived as an index map, in their order.
+//! Pairs that are archived as an index map, in their order, and read back.
 ghost use Rattle.std.specs.Prelude.{◌≡◌, refl};
 ghost use Rattle.archive_shape_layout.specs.Shape.Shape.{index_map};
 ghost use Rattle.archive_forms_values.specs.Parts.{both};
@@ -6,6 +6,7 @@ ghost use Rattle.archive_forms_laws.specs.Fields.{tuple2_spelling};
 ghost use Rattle.archive_forms_laws.specs.Forms.{seen_as};
 ghost use Rattle.archive_forms_laws.proofs.Fields.{tuple2_spells};
 ghost use Rattle.archive_forms_laws.proofs.Views.{kept_spells, known_spells, seen_spells_at};
+ghost use Rattle.archive_forms.specs.Reading.{reads_all, reads_in, reads_tuple2};
 ghost use Rattle.archive_hash_probing.specs.Inputs.{input_hash};
 ghost use Rattle.archive_hash_probing.proofs.Small.{input_hash_small};
 ghost use Rattle.archive_hash_writing.specs.IndexResolvers.{pairs_spelling, positions_of, resolver_of};
@@ -14,11 +15,13 @@ ghost use Rattle.archive_index.specs.Calls.Owned.{CanResolveOwned, ResolvesOwned
 
 use crate::map::ArchivedIndexMap;
 use crate::writing::serialize_pairs_each;
+use archive_forms::{Deserialize, ReadBack};
 use archive_forms_writing::{Archive, ByArchive, Serialize, SerializeEntry};
 use archive_hash::LOAD_FACTOR;
 use archive_hash_probing::FxHasher64;
 use archive_hash_writing::index::IndexMapResolver;
-use archive_shape::{Allocator, Error, Place, Writer};
+use archive_shape::{Allocator, Error, Place, Ref, Writer};
+use std::alloc::Global;
 use std::hash::Hash;
 
 /// Pairs of a key and a value that are archived as an index map, in their order, by the hashes of their keys. At most seven
@@ -75,5 +78,29 @@ impl<S: Writer + Allocator, K: Serialize<S> + Hash, V: Serialize<S>> Serialize<S
             serializer,
             &SerializeEntry,
         )
+    }
+}
+
+impl<K, V, A: ReadBack<K>, B: ReadBack<V>> ReadBack<OwnedIndexMap<K, V>>
+    for ArchivedIndexMap<A, B, FxHasher64> {
+    ghost reads = { reads_in (λ m. m.pairs.items) (reads_all (reads_tuple2 A.reads B.reads)) };
+}
+
+impl<K: Archive + Hash + Drop, V: Archive + Drop, A: Deserialize<K>, B: Deserialize<V>> Deserialize<
+    OwnedIndexMap<K, V>,
+> for ArchivedIndexMap<A, B, FxHasher64> {
+    type Pool = (A::Pool, B::Pool);
+
+    fn deserialize(
+        this: &Ref<'_, ArchivedIndexMap<A, B, FxHasher64>>,
+        alloc: Global,
+        deserializer: &mut (A::Pool, B::Pool),
+    ) -> Result<OwnedIndexMap<K, V>, Error> {
+        let pairs = <ArchivedIndexMap<A, B, FxHasher64> as Deserialize<Vec<(K, V)>>>::deserialize(
+            this,
+            alloc,
+            deserializer,
+        )?;
+        Ok(OwnedIndexMap { pairs })
     }
 }

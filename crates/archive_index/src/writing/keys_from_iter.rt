@@ -18,7 +18,7 @@ use std::hash::Hash;
 use std::marker::PhantomData;
 
 /// Writes the index map of the keys that are left to `()`.
-fn serialize_given_keys<
+pub(crate) fn serialize_given_keys<
     'a,
     S: Writer + Allocator,
     K: Serialize<S> + Hash + 'a,
