@@ -1,17 +1,18 @@
 -- The pairs of a map by their keys: distinct keys, a change at a key, and pairs in the order of their keys.
-use Rattle.std.proofs.Common.{◌≡◌, ◌≢◌, ℕ, suc, Bool, true, false, if◌then◌else◌, cond, List, [], ◌∷◌, Contains, All, Option, Some, None, refl, sym, ap, ap₂, subst, ◌∙◌, arith, ◌⊎◌, inl, inr}
+use Rattle.std.proofs.Common.{◌≡◌, ◌≢◌, ℕ, Bool, true, false, if◌then◌else◌, cond, List, [], ◌∷◌, Option, Some, None, refl, sym, ap, ap₂, subst, ◌∙◌, inl, inr}
 use Rattle.std.specs.Prelude.{⊤}
 use Rattle.std.specs.Str.{bytes_eq}
-use Rattle.std.specs.Ordering.{is_lt, ordering_reverse}
-use Rattle.std.specs.declared.cmp.Ordering.TheVariants.{Less, Greater}
+use Rattle.std.specs.Ordering.{is_lt}
 use Rattle.std.specs.Cmp.Lexicographic.{nat_list_cmp_total}
 use Rattle.std.proofs.lemmas.Bool.{false_from_ne_true}
 use Rattle.std.proofs.lemmas.Cmp.{tied_itself}
 use Rattle.std.proofs.lemmas.Slice.Eq.{bytes_eq-Decides}
-use Rattle.cabinet_text_grammar.specs.Keys.{MapKind, ordered, hashed, kept, IsBelow, IsAboveLast, MayFollow}
+use Rattle.cabinet_text_grammar.specs.Keys.{MapKind, ordered, hashed, kept}
 use Rattle.cabinet_text_grammar.specs.Tree.{Leaf, Tree, Pairs, no_pairs, more_pairs, IsLegal, ArePairs}
 use Rattle.cabinet_text_grammar.specs.Path.{Step, node_at, node_by, enters, enters_by}
 use Rattle.cabinet_text_grammar.specs.Answering.{change, change_by}
+use Rattle.cabinet_text_grammar.specs.PairsLaws.{HasPair}
+use Rattle.cabinet_text_grammar.proofs.DistinctKeys.{later_differ}
 use Rattle.cabinet_documents.specs.Order.{is_below, inserted, arranged}
 
 -- ---- at a key, and past it
@@ -69,47 +70,13 @@ pub keys_distinct : (ps : Pairs) → AreDistinct ps → AreKeysDistinct (pair_ke
 keys_distinct no_pairs h = tt
 keys_distinct (more_pairs k t ps) h = (h.0, keys_distinct ps h.2)
 
--- of a relation between a key and the keys so far, the last first: where it holds of the last key, and then holds on with
--- each key that may follow, all of which differ
-module _
-    (kind : MapKind) (IsSoFar : List ℕ → List (List ℕ) → Type 0)
-    (begins : (k : List ℕ) (keys : List (List ℕ)) → IsSoFar k (k ∷ keys))
-    (goes_on : (k l : List ℕ) (keys : List (List ℕ)) → IsSoFar k keys → MayFollow kind keys l → (l ≢ k) × IsSoFar k (l ∷ keys))
-  where
-    lacks : (k : List ℕ) (keys : List (List ℕ)) (ps : Pairs) → IsSoFar k keys → ArePairs kind keys ps → Lacks k ps
-    lacks k keys no_pairs h p = tt
-    lacks k keys (more_pairs l t ps) h p = let g = goes_on k l keys h p.0.1 in (g.0, lacks k (l ∷ keys) ps g.1 p.1.1)
-
-    all_distinct : (keys : List (List ℕ)) (ps : Pairs) → ArePairs kind keys ps → AreDistinct ps
-    all_distinct keys no_pairs p = tt
-    all_distinct keys (more_pairs k t ps) p = (lacks k (k ∷ keys) ps (begins k keys) p.1.1, p.1.0, all_distinct (k ∷ keys) ps p.1.1)
-
--- a key is the last of some keys, or below it
-abbrev IsUpTo : List ℕ → List (List ℕ) → Type 0
-IsUpTo k [] = ⊥
-IsUpTo k (last ∷ keys) = (k ≡ last) ⊎ IsBelow k last
-
-below_self : (k l : List ℕ) → IsBelow k l → l ≢ k
-below_self k l h e =
-    let total = nat_list_cmp_total in
-    let self : IsBelow k k = subst (IsBelow k) e h in
-    let both : Less ≡ Greater = sym self ∙ total.antisymm k k ∙ ap ordering_reverse self in
-    cc
-
-further : (k l : List ℕ) (keys : List (List ℕ)) → IsUpTo k keys → IsAboveLast keys l → (l ≢ k) × IsUpTo k (l ∷ keys)
-further k l [] h a = absurd h
-further k l (last ∷ keys) (inl e) a = let b = subst (λ x. IsBelow x l) (sym e) a in (below_self k l b, inr b)
-further k l (last ∷ keys) (inr h) a = let total = nat_list_cmp_total in let b = total.trans k last l h a in (below_self k l b, inr b)
-
-other : (k l : List ℕ) (keys : List (List ℕ)) → Contains keys k → All (λ before. before ≢ l) keys → (l ≢ k) × Contains (l ∷ keys) k
-other k l keys c all =
-    let low = c.1 in
-    (λ e. all c.0 k c.1 (c.2 ∙ sym e), (suc c.0, omega arith, c.2))
-
 pub distinct : (kind : MapKind) (keys : List (List ℕ)) (ps : Pairs) → ArePairs kind keys ps → AreDistinct ps
-distinct ordered = all_distinct ordered IsUpTo (λ k keys. inl refl) further
-distinct hashed = all_distinct hashed IsUpTo (λ k keys. inl refl) further
-distinct kept = all_distinct kept (λ k keys. Contains keys k) (λ k keys. (0, omega arith, refl)) other
+distinct kind keys no_pairs p = tt
+distinct kind keys (more_pairs k t ps) p = (all_new ps (later_differ kind k keys ps p.1.1), p.1.0, distinct kind (k ∷ keys) ps p.1.1)
+  where
+    all_new : (qs : Pairs) → ((l : List ℕ) (u : Tree) → HasPair l u qs → l ≢ k) → Lacks k qs
+    all_new no_pairs differ = tt
+    all_new (more_pairs l u qs) differ = (differ l u (inl (refl, refl)), all_new qs (λ m v later. differ m v (inr later)))
 
 -- ---- pairs in the order of their keys
 

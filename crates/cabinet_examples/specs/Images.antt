@@ -1,9 +1,10 @@
 -- Documents whose images are written out.
 use Rattle.std.specs.Prelude.{ℕ, List, [], ◌∷◌, ◌++◌, codes, pos, true}
-use Rattle.cabinet_text_grammar.specs.Tree.{Tree, leaf, shared, nothing, just, list, whole, no_trees, more_trees, truth, number, text}
+use Rattle.cabinet_text_grammar.specs.Keys.{ordered, hashed, kept}
+use Rattle.cabinet_text_grammar.specs.Tree.{Tree, leaf, shared, nothing, just, list, map, whole, no_trees, more_trees, no_pairs, more_pairs, truth, number, text}
 use Rattle.cabinet_documents.specs.Image.{Image}
 use Rattle.cabinet_examples.specs.Pieces.{zeros, filler, number_node}
-use Rattle.cabinet_examples.specs.Documents.{number_bytes, truth_bytes, long_text_bytes, nothing_bytes, some_number_bytes, empty_list_bytes, shared_text_bytes, empty_shared_text_bytes, whole_bytes}
+use Rattle.cabinet_examples.specs.Documents.{number_bytes, truth_bytes, long_text_bytes, nothing_bytes, some_number_bytes, empty_list_bytes, shared_text_bytes, empty_shared_text_bytes, whole_bytes, two_ordered_bytes, one_hashed_bytes, two_kept_bytes}
 
 -- ---- leaves
 
@@ -71,3 +72,29 @@ whole_twice t = list (more_trees (whole t) (more_trees (whole t) no_trees))
 
 abbrev pub WholeImage : Type 0
 WholeImage = Image (whole_twice (leaf (number (pos 5)))) whole_bytes
+
+-- ---- maps of each kind
+
+abbrev pub numeral : ℕ → Tree
+numeral n = leaf (number (pos n))
+
+-- a leaf of two entries
+abbrev pub two_ordered : Tree
+two_ordered = map ordered (more_pairs (codes "coffee") (numeral 300) (more_pairs (codes "tea") (numeral 250) no_pairs))
+
+abbrev pub OrderedMapImage : Type 0
+OrderedMapImage = Image two_ordered two_ordered_bytes
+
+-- a table of two places
+abbrev pub one_hashed : Tree
+one_hashed = map hashed (more_pairs (codes "a") (leaf (text (codes "world"))) no_pairs)
+
+abbrev pub HashedMapImage : Type 0
+HashedMapImage = Image one_hashed one_hashed_bytes
+
+-- a table of three places, and after it the entries in their order
+abbrev pub two_kept : Tree
+two_kept = map kept (more_pairs (codes "z") (numeral 1) (more_pairs (codes "a") (numeral 2) no_pairs))
+
+abbrev pub KeptMapImage : Type 0
+KeptMapImage = Image two_kept two_kept_bytes

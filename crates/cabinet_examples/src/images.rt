@@ -1,6 +1,6 @@
 //! Worked documents with their images written out, one in the contract of each function.
 
-ghost use Rattle.cabinet_examples.specs.Images.{FiveImage, TrueImage, WorldImage, LongTextImage, NothingImage, SomeFiveImage, SevenAndNineteenImage, EmptyListImage, ListOfAnEmptyListImage, SharedTextImage, EmptySharedTextImage, WholeImage};
+ghost use Rattle.cabinet_examples.specs.Images.{FiveImage, TrueImage, WorldImage, LongTextImage, NothingImage, SomeFiveImage, SevenAndNineteenImage, EmptyListImage, ListOfAnEmptyListImage, SharedTextImage, EmptySharedTextImage, WholeImage, OrderedMapImage, HashedMapImage, KeptMapImage};
 
 /// The image of the number 5.
 pub fn five_image()
@@ -60,4 +60,20 @@ pub fn empty_shared_text_image()
 /// The image of a list of the whole `5` twice: the whole's node is written once, and both elements point to it.
 pub fn whole_image()
     ensures { WholeImage }
+{}
+
+/// The image of an ordered map of two numbers: one leaf, with the keys and then the numbers.
+pub fn ordered_map_image()
+    ensures { OrderedMapImage }
+{}
+
+/// The image of a hashed map of one text: a table of two places, of which the first is empty.
+pub fn hashed_map_image()
+    ensures { HashedMapImage }
+{}
+
+/// The image of a kept map of two numbers, whose keys descend: a table of the places of its entries, and then the entries
+/// in their order.
+pub fn kept_map_image()
+    ensures { KeptMapImage }
 {}

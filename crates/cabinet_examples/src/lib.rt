@@ -31,9 +31,10 @@ pub use canonical::{
     unused_slot_that_is_not_zero, whole_twice_is_canonical,
 };
 pub use images::{
-    empty_list_image, empty_shared_text_image, five_image, list_of_an_empty_list_image,
-    long_text_image, nothing_image, seven_and_nineteen_image, shared_text_image, some_five_image,
-    true_image, whole_image, world_image,
+    empty_list_image, empty_shared_text_image, five_image, hashed_map_image, kept_map_image,
+    list_of_an_empty_list_image, long_text_image, nothing_image, ordered_map_image,
+    seven_and_nineteen_image, shared_text_image, some_five_image, true_image, whole_image,
+    world_image,
 };
 
 /// A document node takes 24 bytes, the item of a map 32, a leaf of an ordered map 176 and an inner node 192.

@@ -4,6 +4,7 @@ pub mod Completed
 pub mod Completing
 pub mod Cuts
 pub mod Decided
+pub mod DistinctKeys
 pub mod Equal
 pub mod Escapes
 mod ExamplesFaults
@@ -12,6 +13,7 @@ pub mod Faults
 pub mod FirstCauses
 pub mod Items
 pub mod KeyLemmas
+mod KeyedPairs
 pub mod Lacking
 pub mod Legal
 pub mod LegalStages
@@ -28,3 +30,4 @@ pub mod TreeTexts
 pub mod Utf8
 pub mod Verdicts
 pub mod Whole
+mod WithoutWholes

@@ -12,6 +12,7 @@ pub mod Laws
 pub mod Line
 pub mod Machine
 pub mod Memory
+pub mod PairsLaws
 pub mod Path
 pub mod Reading
 pub mod Spelling
@@ -21,3 +22,4 @@ pub mod Texts
 pub mod TextsLaws
 pub mod Tree
 pub mod Wholes
+pub mod WholesLaws

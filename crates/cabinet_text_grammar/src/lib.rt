@@ -25,5 +25,6 @@ mod laws;
 pub use cause::Cause;
 pub use depth::MAX_DEPTH;
 pub use laws::{
-    change_keeps_document, fault_refuses, one_document, one_fault, one_line, only_done_changes,
+    change_keeps_document, fault_refuses, map_answers_its_pairs, one_document, one_fault, one_line,
+    only_done_changes, text_without_wholes,
 };
