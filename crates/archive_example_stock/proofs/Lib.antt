@@ -1,0 +1,4 @@
+mod Found
+mod Held
+mod Read
+mod Suits

@@ -1,0 +1,54 @@
+//! What the program prints.
+ghost use Rattle.archive_example_stock.specs.Written.{HaveOneText};
+
+use crate::fault::Fault;
+use crate::in_archive::{count_in_archive, price_in_archive, shelf_in_archive};
+use crate::look_up::look_up;
+use crate::stock::Stock;
+use std::alloc::Global;
+use std::io;
+use std::rc::RcStr;
+
+/// Prints a number, or that there is none.
+pub fn print_number<R: Print>(rt: &R, what: &str, number: Option<u32>) -> io::Result<()> {
+    match number {
+        Some(number) => println!(rt; "{what}: {number}"),
+        None => println!(rt; "{what}: none"),
+    }
+}
+
+/// Prints what is looked up in the archive of a stock.
+pub fn print_answers<R: Print>(rt: &R, alloc: Global, stock: &Stock) -> Result<(), Fault>
+    requires { HaveOneText stock.now.labels.items }
+{
+    print_number(
+        rt,
+        "price of screws",
+        price_in_archive(alloc, stock, "screws")?,
+    )?;
+    print_number(
+        rt,
+        "price of nails",
+        look_up(alloc, &stock.prices, "nails")?,
+    )?;
+    print_number(rt, "price of glue", price_in_archive(alloc, stock, "glue")?)?;
+    print_number(rt, "count of shelf 7", count_in_archive(alloc, stock, 7)?)?;
+    match shelf_in_archive(alloc, stock, 9)? {
+        Some(name) => println!(rt; "shelf 9: {name}")?,
+        None => println!(rt; "shelf 9: none")?,
+    }
+    Ok(())
+}
+
+/// Prints what a stock has that was read back.
+pub fn print_stock<R: Print>(rt: &R, stock: &Stock) -> io::Result<()> {
+    println!(rt; "{} prices", stock.prices.map.len())?;
+    for label in &stock.labels {
+        println!(rt;
+            "label {}, of {} pointers",
+            label.value,
+            RcStr::strong_count(&label.value)
+        )?;
+    }
+    Ok(())
+}
