@@ -1,12 +1,14 @@
 #!/usr/bin/env bash
 # Proves every crate and runs every test: the count of crates and of paths through crates.txt, the names in the pages,
-# the toolchain's merge gate, the programs on files, also where calls are refused, what examples/ has for JSON and for
-# many archives, and the calls from C and Python. The last line reports how many processor minutes that took.
+# the toolchain's merge gate, the edits that the prover must refuse, the programs on files, also where calls are refused, what
+# examples/ has for JSON and for many archives, and the calls from C and Python. The last line reports how many processor
+# minutes that took.
 set -u
 cd "$(dirname "$0")" || exit 1
 log=$(mktemp)
 outputs=$(mktemp -d)
-trap 'rm -rf "$log" "$outputs"' EXIT
+gate=$(mktemp -d)
+trap 'rm -rf "$log" "$outputs" "$gate"' EXIT
 
 # Prints a line, and the processor minutes that this script's commands have taken so far.
 say() {
@@ -27,29 +29,24 @@ if ! tests/map.sh; then
     exit 1
 fi
 
-# Returns whether memory has 4.5 GB for a check on each processor.
-has_room() {
-    local memory file limit
-    memory=$(awk '/^MemAvailable:/ { print $2 * 1024 }' /proc/meminfo)
-    for file in /sys/fs/cgroup/memory.max /sys/fs/cgroup/memory/memory.limit_in_bytes; do
-        limit=$(cat "$file" 2> /dev/null)
-        [[ $limit =~ ^[0-9]+$ ]] && memory=$(printf '%s\n%s\n' "$memory" "$limit" | sort -g | head -n 1)
-    done
-    awk -v memory="$memory" -v processors="$(nproc)" 'BEGIN { exit memory < 4.5e9 * processors }'
-}
-
 echo '== the merge gate'
-# The gate by itself reckons with up to 8 GB for a check, of which few take 4, and would leave processors idle.
-if [ -z "${RT_JOBS:-}" ] && has_room; then
-    export RT_JOBS=$(nproc)
-fi
-rt ci < /dev/null | tee "$log"
+# The gate tries each edit by a check of a whole crate, which takes more than all else together. tests/edits.sh tries several
+# at once over what the gate has proved, so the gate runs in a copy without them.
+tar --create --exclude='./.git' --exclude='./crates/*/out' --exclude='./crates/*/must-fail' . | tar --extract --directory "$gate"
+(cd "$gate" && rt ci) < /dev/null | tee "$log"
 status=${PIPESTATUS[0]}
 if [ "$status" -ne 0 ] || ! [[ $(tail -n 1 "$log") =~ ^[0-9]+\ passed,\ 0\ failed$ ]]; then
     say 'the merge gate failed'
     exit 1
 fi
 say 'the merge gate passed'
+
+echo '== the edits that the prover must refuse'
+if ! tests/edits.sh "$gate"; then
+    say 'an edit was not refused'
+    exit 1
+fi
+say 'each edit was refused'
 
 titles=()
 faults=()
@@ -63,14 +60,17 @@ start() {
     scripts+=("$!")
 }
 
-# the merge gate has left the programs that it proved and built
+# the programs that the merge gate proved and built
+for program in cab cab_show; do
+    mkdir -p "crates/$program/out" && cp "$gate/crates/$program/out/$program" "crates/$program/out/$program"
+done
 cab=$PWD/crates/cab/out/cab
 show=$PWD/crates/cab_show/out/cab_show
 start 'the programs on files' 'a program failed' tests/program.sh "$cab" "$show"
 start 'the filters to and from JSON' 'a filter failed' tests/json.sh "$cab" "$show"
 start 'many archives in a database' 'the archives in a database failed' tests/many.sh "$cab" "$show"
 start 'the programs with refused calls' 'a refused call was not told' \
-    tests/refused.sh "$cab" "$show" "$PWD/crates/cabinet_refused/out/cabinet_refused" "$PWD/crates/archive_example/out/archive_example"
+    tests/refused.sh "$cab" "$show" "$gate/crates/cabinet_refused/out/cabinet_refused" "$gate/crates/archive_example/out/archive_example"
 # The merge gate leaves no static library. `rt lib` builds it over the libraries that `rt check` has left here; where there
 # are none it would prove each of them once more.
 if [ -f crates/cabinet/out/rlib/stamp ]; then

@@ -208,14 +208,18 @@ def check_brackets(page):
 
 def check_edits():
     for edit in sorted(glob.glob("crates/*/must-fail/*.edit")):
-        path = None
+        crate, path, function = os.path.join(os.path.dirname(edit), ".."), None, ""
         for line in lines_of(edit):
             key, _, value = line.partition(": ")
-            if key == "file":
-                path = os.path.join(os.path.dirname(edit), "..", value)
+            if key == "function":
+                function = value.rpartition("::")[2]
+            elif key == "file":
+                path = os.path.join(crate, value)
                 check(os.path.isfile(path), edit, f"there is no {value}")
             elif key == "old":
                 check(path and text_of(path).count(value) == 1, edit, f"its file has not exactly once: {value}")
+        sources = glob.glob(f"{crate}/src/**/*.rt", recursive=True)
+        check(any(re.search(rf"\bfn {function}\b", text_of(source)) for source in sources), edit, f"its crate has no function {function}")
 
 
 check_map("docs/MAP.md")
