@@ -103,16 +103,17 @@ def said(crate, folder, kept, functions):
 
 
 def refusal(crate, function, lines):
-    """The first line that says that a goal of this function is not proved, or that its proof is gone."""
+    """The first line that says that a goal of this function, or of a closure in it, is not proved, or that its proof is gone."""
     path, last = function.replace("::", "/"), function.rpartition("::")[2]
     for line in lines:
         goal = re.match(r"(?:\./)?proofs/(\S*)/[^/\s]*\.antt:\d+:\d+: error: (?:`([^`]*)`)?", line)
         if goal:
             cycle = re.fullmatch(r"(?:(.*)/)?\+[^/]*", goal[1])
             in_cycle = cycle and path.startswith(f"{cycle[1]}/" if cycle[1] else "") and re.match(rf"(?:\S*\W)?{last}-", goal[2] or "")
-            if goal[1] == path or in_cycle:
+            if in_cycle or f"{goal[1]}/".replace("/fn/", "/", 1).startswith(f"{path}/"):
                 return line
-        if re.match(rf"fn {crate}::{re.escape(function)}: (no proof: expected answers|not proved$)", line):
+        named = re.match(rf"fn {crate}::(\S+): (?:no proof: expected answers|not proved$)", line)
+        if named and f"{named[1]}::".replace("::fn::", "::", 1).startswith(f"{function}::"):
             return line
     return None
 

@@ -1,3 +1,4 @@
+mod Elements
 mod Found
 mod Held
 mod Read

@@ -3,8 +3,8 @@ use denote.Bor.{Bor}
 use Rattle.std.specs.Prelude.{◌≡◌, ℕ, List, Option, String}
 use Rattle.std.specs.Cmp.Lexicographic.{slice_cmp}
 use Rattle.std.specs.Global.{Global}
-use Rattle.std.specs.List.{find}
-use Rattle.std.specs.Option.{option_map}
+use Rattle.std.specs.List.{find, slice_get}
+use Rattle.std.specs.Option.{option_map, option_and_then}
 use Rattle.std.specs.Ordering.{is_eq, nat_cmp}
 use Rattle.std.specs.String.{string_bytes}
 use Rattle.std.specs.declared.cmp.Ordering.{Ordering}
@@ -24,6 +24,10 @@ use Rattle.archive_example_stock.specs.Stock.{number_shape, any}
 -- the price of a ware: that of the first entry with its name
 abbrev pub price_with : (name : List ℕ) → List (String Global × ℕ) → Option ℕ
 price_with name es = option_map (λ e. e.1) (find (λ e. is_eq (slice_cmp nat_cmp (string_bytes e.0) name)) es)
+
+-- the price of a ware in a shop: none if there is no such shop
+abbrev pub price_among : {M : Type 0} → (M → List (String Global × ℕ)) → (shop : ℕ) (name : List ℕ) → List M → Option ℕ
+price_among entries shop name shops = option_and_then (λ prices. price_with name (entries prices)) (slice_get shops shop)
 
 -- the count of a shelf: that of the first entry with its number
 abbrev pub count_with : (shelf : ℕ) → List (ℕ × ℕ) → Option ℕ

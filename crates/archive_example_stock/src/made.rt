@@ -1,4 +1,4 @@
-//! The stock that the program archives.
+//! The stock and the shops that the program archives.
 ghost use Rattle.std.specs.Prelude.{IfOk};
 ghost use Rattle.archive_example_stock.specs.Written.{HaveOneText};
 
@@ -67,6 +67,16 @@ fn labels(alloc: Global) -> Result<Vec<Shared<RcStr>>, Error>
         },
     ]?;
     Ok(labels)
+}
+
+/// Returns the prices of two shops, of which the first has nothing.
+pub fn shops(alloc: Global) -> Result<Vec<OwnedHashMap<String, u32>>, Error> {
+    let nothing = OwnedHashMap {
+        map: HashMap::new(alloc),
+    };
+    let wares = prices(alloc)?;
+    let shops = vec![in alloc; nothing, wares]?;
+    Ok(shops)
 }
 
 /// Returns a stock of nails, screws and hammers.

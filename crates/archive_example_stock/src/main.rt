@@ -10,6 +10,7 @@ mod look_ups;
 mod made;
 mod numbers;
 mod printing;
+mod shops;
 mod stock;
 mod texts;
 mod written;
@@ -17,7 +18,7 @@ mod written;
 use crate::archived::ArchivedStock;
 use crate::fault::Fault;
 use crate::look_ups::{count_of, write_count};
-use crate::printing::{print_answers, print_number, print_stock};
+use crate::printing::{print_answers, print_number, print_shops, print_stock};
 use crate::stock::Stock;
 use archive_core::{access, access_mut, from_bytes, to_bytes};
 
@@ -27,6 +28,7 @@ fn main(rt: HostRuntime) -> Result<(), Fault> {
     let mut bytes = to_bytes(alloc, &stock)?;
     println!(rt; "{} bytes", bytes.len())?;
     print_answers(&rt, alloc, &stock)?;
+    print_shops(&rt, alloc, &made::shops(alloc)?)?;
     let root = access_mut::<ArchivedStock>(alloc, &mut bytes)?;
     if write_count(root, 7, 119) {
         println!(rt; "edited")?;

@@ -4,7 +4,9 @@ ghost use Rattle.archive_example_stock.specs.Written.{HaveOneText};
 use crate::fault::Fault;
 use crate::in_archive::{count_in_archive, price_in_archive, shelf_in_archive};
 use crate::look_up::look_up;
+use crate::shops::price_in_shop;
 use crate::stock::Stock;
+use archive_hash::OwnedHashMap;
 use std::alloc::Global;
 use std::io;
 use std::rc::RcStr;
@@ -36,6 +38,19 @@ pub fn print_answers<R: Print>(rt: &R, alloc: Global, stock: &Stock) -> Result<(
     match shelf_in_archive(alloc, stock, 9)? {
         Some(name) => println!(rt; "shelf 9: {name}")?,
         None => println!(rt; "shelf 9: none")?,
+    }
+    Ok(())
+}
+
+/// Prints what nails cost in each shop, and where there is no shop, as looked up in the archive of the shops.
+pub fn print_shops<R: Print>(
+    rt: &R,
+    alloc: Global,
+    shops: &Vec<OwnedHashMap<String, u32>>,
+) -> Result<(), Fault> {
+    for shop in 0..3 {
+        let price = price_in_shop(alloc, shops, shop, "nails")?;
+        print_number(rt, "price of nails in a shop", price)?;
     }
     Ok(())
 }
