@@ -99,7 +99,11 @@ def said(crate, folder, kept, functions):
     only = [word for name in functions for word in ("--only", name)]
     command = [f"{TOOLCHAIN}/bin/rattle", "check", *words(crate), "--incremental", kept, *only]
     how = {"cwd": folder, "stdin": subprocess.DEVNULL, "stdout": subprocess.PIPE, "stderr": subprocess.STDOUT}
-    return subprocess.run(command, text=True, errors="replace", **how).stdout.split("\n")
+    ran = subprocess.run(command, text=True, errors="replace", **how)
+    if ran.returncode < 0:
+        # killed, most likely for memory
+        ran = subprocess.run(command, text=True, errors="replace", **how)
+    return ran.stdout.split("\n")
 
 
 def refusal(crate, function, lines):
