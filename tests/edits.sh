@@ -3,8 +3,8 @@
 # it in its line `function:`. `rt must-fail` tries them one by one, each by a check of the whole crate. A function is proved of
 # its own body by the contracts of those that it calls, so here edits of different functions of a crate are tried at once, and
 # only these functions, and those that they call, are checked. An edit is refused if a goal of its function is not proved, or
-# its function has no proof any more; what is not proved because it calls such a function does not count. An edit with a line
-# `alone:` changes what other functions rely on, and is tried by itself.
+# its function has no proof any more. What is not proved because it calls such a function does not count, and is tried again by
+# itself. So is an edit with a line `alone:`, which changes what other functions rely on.
 # usage: edits.sh TREE [CRATE..], where TREE is a copy of this repository in which `rt ci` has proved the libraries.
 # RT_JOBS may say how many crates are tried side by side.
 set -u
@@ -122,6 +122,11 @@ def refusal(crate, function, lines):
     return None
 
 
+def rests_on_others(crate, function, lines):
+    """Whether the check only says that the function calls one that is not proved, perhaps for another edit."""
+    return any(re.match(rf"fn {crate}::{re.escape(function)}: .*it calls ", line) for line in lines)
+
+
 def unread(lines):
     """Why the edited text could not be read, if it could not: the check then says nothing of any proof."""
     if any(re.match(r"only=\d+ proved=\d+", line) for line in lines):
@@ -168,16 +173,19 @@ def tried(crate):
             if not here:
                 return told + [(False, f"must-fail {crate}/{edit.name}: BAD EDIT: it names no function, or does not fit the crate") for edit in waiting]
             lines = said(crate, room, kept, [edit.function for edit in here])
-            why = unread(lines)
+            why, again = unread(lines), []
             for edit in here:
                 goal = refusal(crate, edit.function, lines)
-                if why:
+                if not why and not goal and not edit.is_alone and rests_on_others(crate, edit.function, lines):
+                    edit.is_alone = True
+                    again.append(edit)
+                elif why:
                     told.append((False, f"must-fail {crate}/{edit.name}: BAD EDIT: tried with {len(here) - 1} others, and not read: {why[:200]}"))
                 elif goal:
                     told.append((True, f"must-fail {crate}/{edit.name}: refused: {goal[:160]}"))
                 else:
                     told.append((False, f"must-fail {crate}/{edit.name}: NOT REFUSED: {edit.function} is still proved"))
-            waiting = [edit for edit in waiting if edit not in here]
+            waiting = [edit for edit in waiting if edit not in here] + again
     return told
 
 
