@@ -3,8 +3,8 @@
 # it in its line `function:`. `rt must-fail` tries them one by one, each by a check of the whole crate. A function is proved of
 # its own body by the contracts of those that it calls, so here edits of different functions of a crate are tried at once, and
 # only these functions, and those that they call, are checked. An edit is refused if a goal of its function is not proved, or
-# its function has no proof any more. What is not proved because it calls such a function does not count, and is tried again by
-# itself. So is an edit with a line `alone:`, which changes what other functions rely on.
+# its function has no proof any more. Where a check says neither this nor that the function is proved, as of one that calls
+# another that is not, the edit is tried again by itself. So is one with a line `alone:`, which changes what others rely on.
 # usage: edits.sh TREE [CRATE..], where TREE is a copy of this repository in which `rt ci` has proved the libraries.
 # RT_JOBS may say how many crates are tried side by side.
 set -u
@@ -30,7 +30,7 @@ class Edit:
 
     def __init__(self, file):
         self.name = os.path.basename(file).removesuffix(".edit")
-        self.function, self.is_alone, self.changes = None, False, []
+        self.function, self.is_alone, self.in_cycle, self.changes = None, False, False, []
         path = old = None
         with open(file, encoding="utf-8") as lines:
             for line in lines.read().split("\n"):
@@ -48,11 +48,12 @@ class Edit:
 
     def applied(self, folder):
         """The texts of the files that it changes, or None where one has not each old text exactly once."""
-        texts = {}
+        texts, name = {}, self.function.rpartition("::")[2]
         for path, old, new in self.changes:
             if path not in texts:
                 with open(f"{folder}/{path}", encoding="utf-8") as file:
                     texts[path] = file.read()
+                self.in_cycle |= bool(re.search(rf"#\[cycle\(\w+\)\](?:(?!\bfn\b).)*\bfn {name}\b", texts[path], re.S))
             if texts[path].count(old) != 1:
                 return None
             texts[path] = texts[path].replace(old, new)
@@ -106,25 +107,27 @@ def said(crate, folder, kept, functions):
     return ran.stdout.split("\n")
 
 
-def refusal(crate, function, lines):
-    """The first line that says that a goal of this function, or of a closure in it, is not proved, or that its proof is gone."""
-    path, last = function.replace("::", "/"), function.rpartition("::")[2]
+def refusal(crate, edit, lines):
+    """The first line that says that a goal of the edited function, or of a closure in it, is not proved, or that its proof is
+    gone. The functions of a cycle of calls have one proof: of what it says only goals of the function count."""
+    path, last = edit.function.replace("::", "/"), edit.function.rpartition("::")[2]
+    is_own = re.compile(rf"(?:\S*\W)?{last}-")
     for line in lines:
         goal = re.match(r"(?:\./)?proofs/(\S*)/[^/\s]*\.antt:\d+:\d+: error: (?:`([^`]*)`)?", line)
         if goal:
             cycle = re.fullmatch(r"(?:(.*)/)?\+[^/]*", goal[1])
-            in_cycle = cycle and path.startswith(f"{cycle[1]}/" if cycle[1] else "") and re.match(rf"(?:\S*\W)?{last}-", goal[2] or "")
+            in_cycle = cycle and path.startswith(f"{cycle[1]}/" if cycle[1] else "") and is_own.match(goal[2] or "")
             if in_cycle or f"{goal[1]}/".replace("/fn/", "/", 1).startswith(f"{path}/"):
                 return line
-        named = re.match(rf"fn {crate}::(\S+): (?:no proof: expected answers|not proved$)", line)
-        if named and f"{named[1]}::".replace("::fn::", "::", 1).startswith(f"{function}::"):
-            return line
+        named = re.match(rf"fn {crate}::(\S+): (?:no proof: expected answers|not proved)", line)
+        if named and f"{named[1]}::".replace("::fn::", "::", 1).startswith(f"{edit.function}::") and "it calls" not in line:
+            if edit.is_alone or not edit.in_cycle or any(map(is_own.match, re.findall("`([^`]*)`", line))):
+                return line
     return None
 
 
-def rests_on_others(crate, function, lines):
-    """Whether the check only says that the function calls one that is not proved, perhaps for another edit."""
-    return any(re.match(rf"fn {crate}::{re.escape(function)}: .*it calls ", line) for line in lines)
+def is_proved(crate, function, lines):
+    return f"fn {crate}::{function}: proved" in lines
 
 
 def unread(lines):
@@ -175,8 +178,8 @@ def tried(crate):
             lines = said(crate, room, kept, [edit.function for edit in here])
             why, again = unread(lines), []
             for edit in here:
-                goal = refusal(crate, edit.function, lines)
-                if not why and not goal and not edit.is_alone and rests_on_others(crate, edit.function, lines):
+                goal = refusal(crate, edit, lines)
+                if not why and not goal and not edit.is_alone and not is_proved(crate, edit.function, lines):
                     edit.is_alone = True
                     again.append(edit)
                 elif why:
@@ -184,7 +187,7 @@ def tried(crate):
                 elif goal:
                     told.append((True, f"must-fail {crate}/{edit.name}: refused: {goal[:160]}"))
                 else:
-                    told.append((False, f"must-fail {crate}/{edit.name}: NOT REFUSED: {edit.function} is still proved"))
+                    told.append((False, f"must-fail {crate}/{edit.name}: NOT REFUSED: no contract of {edit.function} refuses it"))
             waiting = [edit for edit in waiting if edit not in here] + again
     return told
 
