@@ -2,9 +2,9 @@
 # Tries the edits in crates/*/must-fail: the prover must refuse each. An edit makes the body of one function wrong, and names
 # it in its line `function:`. `rt must-fail` tries them one by one, each by a check of the whole crate. A function is proved of
 # its own body by the contracts of those that it calls, so here edits of different functions of a crate are tried at once, and
-# only these functions, and those that they call, are checked. An edit is refused if a goal of its function is not proved, or
-# its function has no proof any more. Where a check says neither this nor that the function is proved, as of one that calls
-# another that is not, the edit is tried again by itself. So is one with a line `alone:`, which changes what others rely on.
+# only these functions, and those that they call, are checked. An edit is refused if a goal of its function is not proved; a body
+# that the borrow checker does not cover says nothing. Where a check says neither this nor that the function is proved, as of
+# one that calls another that is not, the edit is tried again by itself. So is one with a line `alone:`, which changes what others rely on.
 # usage: edits.sh TREE [CRATE..], where TREE is a copy of this repository in which `rt ci` has proved the libraries.
 # RT_JOBS may say how many crates are tried side by side.
 set -u
@@ -108,8 +108,8 @@ def said(crate, folder, kept, functions):
 
 
 def refusal(crate, edit, lines):
-    """The first line that says that a goal of the edited function, or of a closure in it, is not proved, or that its proof is
-    gone. The functions of a cycle of calls have one proof: of what it says only goals of the function count."""
+    """The first line that says that a goal of the edited function, or of a closure in it, is not proved. The functions of a
+    cycle of calls have one proof: of what it says only goals of the function count."""
     path, last = edit.function.replace("::", "/"), edit.function.rpartition("::")[2]
     is_own = re.compile(rf"(?:\S*\W)?{last}-")
     for line in lines:
@@ -147,9 +147,9 @@ def copy_of(crate, room):
 
 def chosen(waiting, room):
     """Edits of different functions, none of which changes the text of another, written into the folder."""
-    chosen, functions = [], set()
+    here, functions = [], set()
     for edit in waiting:
-        if edit.function in functions or edit.is_alone and chosen:
+        if edit.function in functions or edit.is_alone and here:
             continue
         texts = edit.applied(room)
         if texts is None:
@@ -157,11 +157,11 @@ def chosen(waiting, room):
         for path, text in texts.items():
             with open(f"{room}/{path}", "w", encoding="utf-8") as file:
                 file.write(text)
-        chosen.append(edit)
+        here.append(edit)
         functions.add(edit.function)
         if edit.is_alone:
             break
-    return chosen
+    return here
 
 
 def tried(crate):

@@ -1,24 +1,20 @@
 -- The elements of a list that was written.
 use Rattle.std.specs.Option.{option_and_then}
-use Rattle.std.proofs.Common.{◌≡◌, ◌∙◌, ℕ, ◌<◌, ◌≤◌, List, [], ◌∷◌, length, slice_get, get_or, Option, Some, None, ◌⊎◌, inl, inr, refl, sym, ap, arith}
+use Rattle.std.proofs.Common.{◌≡◌, ◌∙◌, ℕ, ◌<◌, ◌≤◌, List, length, slice_get, get_or, Option, Some, None, ◌⊎◌, inl, inr, sym, ap, arith}
 use Rattle.std.proofs.lemmas.Option.{slice_get_cases}
 use Rattle.archive_shape_layout.specs.Value.{Values, count_values}
 use Rattle.archive_shape_layout.specs.Value.Value.{group}
 use Rattle.archive_forms_laws.specs.State.{State}
-use Rattle.archive_forms_laws.specs.Spelling.{Spelling, state_after}
+use Rattle.archive_forms_laws.specs.Spelling.{Spelling}
 use Rattle.archive_forms_laws.specs.Regions.{values}
+use Rattle.archive_hash_writing.proofs.SpellingTables.{count_of}
 
 module _ {A R : Type 0} (w : Spelling A R) where
-  -- each element has one value
-  count_written : (xs : List A) (st : State) → count_values (values w xs st) ≡ length xs
-  count_written [] st = refl
-  count_written (x ∷ xs) st = (let rest = count_written xs (state_after w x st) in omega (arith, rest))
-
-  -- so there are as many values as elements
+  -- there are as many values as elements
   pub counted : (xs : List A) (st : State) (elements : Values) (len : ℕ) → group (values w xs st) ≡ group elements → count_values elements ≡ len → len ≡ length xs
   counted xs st elements len is count =
       let same : values w xs st ≡ elements = cc in
-      sym count ∙ ap count_values (sym same) ∙ count_written xs st
+      sym count ∙ ap count_values (sym same) ∙ count_of w xs st
 
 module _ {M B : Type 0} (ms : List M) (i len : ℕ) (count : len ≡ length ms) (f : M → Option B) where
   abbrev Cases : Type 0
