@@ -4,7 +4,8 @@
 # its own body by the contracts of those that it calls, so here edits of different functions of a crate are tried at once, and
 # only these functions, and those that they call, are checked. An edit is refused if a goal of its function is not proved; a body
 # that the borrow checker does not cover says nothing. Where a check says neither this nor that the function is proved, as of
-# one that calls another that is not, the edit is tried again by itself. So is one with a line `alone:`, which changes what others rely on.
+# one that calls another that is not, the edit is tried again by itself. So is one with a line `alone:`, which changes what
+# others rely on.
 # usage: edits.sh TREE [CRATE..], where TREE is a copy of this repository in which `rt ci` has proved the libraries.
 # RT_JOBS may say how many crates are tried side by side.
 set -u
