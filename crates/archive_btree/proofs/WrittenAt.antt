@@ -154,7 +154,7 @@ module _ (k v : Shape) (knows others : Names → Type 0) (bytes : List ℕ) (nam
 -- the map that is found where a value was written that is seen as entries
 module _ {A B R P M : Type 0} (view : M → List (A × B)) (most : ℕ) (k v : Shape) (knows others : Names → Type 0) (keys : Spelling A R) (vals : Spelling B P) (spell_keys : (fit : Fit) → Spells fit k knows keys) (spell_vals : (fit : Fit) → Spells fit v others vals)
     (bytes : List ℕ) (pos : ℕ) (names : Names) (known : both knows others names) (some : 0 < most) (given : Keys) (m : M) (written : IsWrittenAt given (seen_as view (entries_spelling most k v keys vals)) bytes pos m) where
-  abbrev entries_written : IsWrittenAt given (btree_spelling most k v keys vals) bytes pos (view m)
+  abbrev pub entries_written : IsWrittenAt given (btree_spelling most k v keys vals) bytes pos (view m)
   entries_written = record {
     state = written.state;
     consistent = written.consistent;

@@ -55,12 +55,14 @@ module _ {A B R P : Type 0} (most : ℕ) (k v : Shape) (knows others : Names →
     abbrev pub FindsEntry : List (A × B) → Q → Option Place → Type 0
     FindsEntry es query found = MatchOption (entry_with query es) (found ≡ None) (λ e. IsSomeAnd found (λ at. HasEntry at e))
 
-    -- The map at a position has these entries, in order. Where the query is compared with each key, the search ends at
-    -- the entry with the query's key. The map has the entries' keys, and each query that a look-up has found.
+    -- The map at a position has these entries, in order, and their keys ascend. Where the query is compared with each key,
+    -- the search ends at the entry with the query's key. The map has the entries' keys, and each query that a look-up has
+    -- found.
     pub record AnswersKeys (key_of : List ℕ → ℕ → Q → Type 0) (pos : ℕ) (es : List (A × B)) : Type 0 where
       pub search_tree : Tree Place
       pub map : IsMapAt bytes most k v pos search_tree
       pub walks : AllZip HasEntry (items search_tree) es
+      pub ascend : KeysAscend es
       pub finds : (query : Q) (orders : Place → Ordering) → QueryOrders key_of order bytes query orders (items search_tree) → FindsEntry es query (descend orders search_tree)
       pub found : (query : Q) (at : Option Place) → DescendsTo (QuerySays key_of order bytes query) search_tree at → FindsEntry es query at
       pub has : (query : Q) → IsSome (entry_with query es) → HasKey key_of order bytes most k v pos query

@@ -1,25 +1,20 @@
 //! The laws of all parts of `archive_btree`. Each is a function whose contract is the law, and whose body is empty, but
 //! for those that ask a map of std whether its keys ascend.
-ghost use Rattle.std.specs.Prelude.{◌≡◌, ℕ, ◌<◌, List, false, length};
+ghost use Rattle.std.specs.Prelude.{ℕ, ◌<◌, List, length};
 ghost use Rattle.archive_shape_layout.specs.Shape.Shape.{tree, tuple};
 ghost use Rattle.archive_shape_layout.specs.Shape.Shapes.{no_shapes};
-ghost use Rattle.archive_shape_layout.specs.Content.{Names};
 ghost use Rattle.archive_shape_layout.specs.Holds.{root_position};
-ghost use Rattle.archive_shape_layout.specs.Visited.{AllStand};
-ghost use Rattle.archive_shape_canonical.specs.Settled.{Fit};
 ghost use Rattle.archive_shape_canonical.specs.Canonical.{AreBytes};
 ghost use Rattle.archive_shape.specs.Key.{HeldAt};
 ghost use Rattle.archive_forms_values.specs.Parts.{both};
-ghost use Rattle.archive_forms_laws.specs.State.{State, Keys, visits_of};
+ghost use Rattle.archive_forms_laws.specs.State.{State};
 ghost use Rattle.archive_forms_laws.specs.Fields.{unit_spelling};
 ghost use Rattle.archive_forms_laws.specs.Forms.{seen_as};
-ghost use Rattle.archive_forms_laws.specs.Unshared.{holds_shared};
-ghost use Rattle.archive_forms_laws.specs.WrittenAt.{IsWrittenAt};
 ghost use Rattle.archive_forms.specs.Alike.{AlikeAreEqual};
 ghost use Rattle.archive_forms.specs.Faithful.{AreFaithful};
 ghost use Rattle.archive_btree_spelling.specs.Maps.{btree_spelling};
 ghost use Rattle.archive_btree.specs.Answering.{IsWrittenMap, KeysAscend, AnswersKeys};
-ghost use Rattle.archive_btree.specs.Laws.{MapsAreReadBack, SetsAreReadBack};
+ghost use Rattle.archive_btree.specs.Laws.{AnswersUnshared, AnswersWhereWritten, MapsAreReadBack, RangesAreOfEntries, SetsAreReadBack, ValuesAreReadable};
 ghost use Rattle.archive_btree.specs.Owned.{entries_spelling, key_entries, IsSpelledAs};
 
 use crate::{OwnedBTreeMap, OwnedBTreeSet};
@@ -40,6 +35,8 @@ pub use archive_btree_spelling::{
 };
 use archive_forms::ReadBack;
 use archive_forms_writing::{Archive, KeyOf, OrderedKeyOf};
+use archive_shape::{Portable, Ref};
+use std::ops::RangeBounds;
 
 /// The archive of entries whose keys ascend has the entries that it was written of, in order, and a look-up of a key
 /// returns the entry with the key, and nothing if there is none. Each key can be passed to `index`.
@@ -98,26 +95,55 @@ where
     let _len = map.map.len();
 }
 
-/// A map of std answers its keys in the same way where it was written, at any position: if some fit suits it and the
+/// A map of std answers its keys, as [`written_map_answers`] states, at any position where it was written: if some fit suits it and the
 /// shared values that were written before it have their values, or if no key and no value holds a shared pointer.
 pub fn map_written_at_answers<Q, K: Archive + Ord, V: Archive, const E: usize>(
     map: &OwnedBTreeMap<K, V, E>,
 )
 where
     K::Archived: OrderedKeyOf<K, Q>,
-    ensures shared { (bytes : List ℕ) (pos : ℕ) (names : Names) (keys : Keys) (fit : Fit) → 0 < E → AreBytes bytes
-        → both K.Archived.knows V.Archived.knows names
-        → ⟦<OwnedBTreeMap<K, V, E> as Archive>⟧.spelling.suits fit keys map.now
-        → (written : IsWrittenAt keys ⟦<OwnedBTreeMap<K, V, E> as Archive>⟧.spelling bytes pos map.now)
-        → AllStand names bytes written.state.pos (visits_of written.state.met)
-        → AnswersKeys E K.Archived.shape V.Archived.shape K.Archived.knows V.Archived.knows K.spelling V.spelling bytes K.Archived.key K.Archived.order
-        K.Archived.key_of pos map.now.map.entries }
-    ensures unshared { (bytes : List ℕ) (pos : ℕ) (names : Names) (keys : Keys) → 0 < E → AreBytes bytes
-        → both K.Archived.knows V.Archived.knows names
-        → holds_shared (tree E K.Archived.shape V.Archived.shape) ≡ false
-        → IsWrittenAt keys ⟦<OwnedBTreeMap<K, V, E> as Archive>⟧.spelling bytes pos map.now
-        → AnswersKeys E K.Archived.shape V.Archived.shape K.Archived.knows V.Archived.knows K.spelling V.spelling bytes K.Archived.key K.Archived.order
-        K.Archived.key_of pos map.now.map.entries }
+    ensures shared { AnswersWhereWritten E K.Archived.ArchivedKey K.Archived.key K.spelling V.Archived.Portable V.spelling
+        ⟦<OwnedBTreeMap<K, V, E> as Archive>⟧ (λ m. m.map.entries) map.now }
+    ensures unshared { AnswersUnshared E K.Archived.ArchivedKey K.Archived.key K.spelling V.Archived.Portable V.spelling
+        ⟦<OwnedBTreeMap<K, V, E> as Archive>⟧ (λ m. m.map.entries) map.now }
+{
+    // The call ensures that the keys ascend.
+    let _len = map.map.len();
+}
+
+/// A set of std answers its keys at any position where it was written, as a map of them to `()`.
+pub fn set_written_at_answers<Q, K: Archive + Ord, const E: usize>(set: &OwnedBTreeSet<K, E>)
+where
+    K::Archived: OrderedKeyOf<K, Q>,
+    ensures shared { AnswersWhereWritten E K.Archived.ArchivedKey K.Archived.key K.spelling ⟦<() as Portable>⟧ unit_spelling
+        ⟦<OwnedBTreeSet<K, E> as Archive>⟧ (λ s. key_entries s.set.keys) set.now }
+    ensures unshared { AnswersUnshared E K.Archived.ArchivedKey K.Archived.key K.spelling ⟦<() as Portable>⟧ unit_spelling
+        ⟦<OwnedBTreeSet<K, E> as Archive>⟧ (λ s. key_entries s.set.keys) set.now }
+{
+    // The call ensures that the keys ascend.
+    let _len = set.set.len();
+}
+
+/// What [`ArchivedBTreeMap::range`] returns of a map that answers its keys: the entries whose keys lie between the bounds,
+/// one by one and in order, each at its place. No order of the places need be given.
+pub fn ranges_are_of_entries<Q, R: RangeBounds<Q>, K: Archive, V: Archive, const E: usize>(
+    this: Ref<'_, ArchivedBTreeMap<K::Archived, V::Archived, E>>,
+)
+where
+    K::Archived: KeyOf<K, Q>,
+    ensures { RangesAreOfEntries E K.Archived.Portable K.Archived.ArchivedKey K.Archived.key K.spelling V.Archived.Portable V.spelling R.RangeBounds
+        this.entry }
+{}
+
+/// Where a written map can be read, so can the value that [`ArchivedBTreeMap::get`] returns: that of the entry with the key.
+/// Nothing is returned if there is none. So a look-up in a map that is a value of another map is known too.
+pub fn values_are_readable<Q, K: Archive + Ord, V: Archive, const E: usize>(
+    map: &OwnedBTreeMap<K, V, E>,
+)
+where
+    K::Archived: OrderedKeyOf<K, Q>,
+    ensures { ValuesAreReadable E K.Archived.ArchivedKey K.Archived.key V.Archived.Portable V.spelling
+        ⟦<OwnedBTreeMap<K, V, E> as Archive>⟧ (λ m. m.map.entries) map.now }
 {
     // The call ensures that the keys ascend.
     let _len = map.map.len();

@@ -1,6 +1,5 @@
 -- The packed tree of items is read as it is written, level by level.
 use Rattle.std.proofs.Common.{◌≡◌, ◌∙◌, ℕ, zero, suc, ◌+◌, ◌*◌, ◌^◌, ◌<◌, ◌≤◌, nat_le, cond, Bool, true, false, Option, List, [], ◌∷◌, ◌++◌, length, refl, ap, ap₂, subst, arith, length-append, leb-true}
-use Rattle.std.proofs.lemmas.Bool.Decides.{nat_tests}
 use Rattle.std.proofs.Math.Nat.{pow-zero}
 use Rattle.archive_shape_layout.specs.Shape.{Shape}
 use Rattle.archive_shape_layout.specs.Value.Value.{group}
@@ -31,7 +30,7 @@ use Rattle.archive_btree_spelling.proofs.Nodes.{Roomy, roomy, node_end, leaf_of,
 use Rattle.archive_btree_spelling.proofs.Whole.{node_consistent, node_keyed, node_piece_bytes, node_exact}
 
 -- lists below pointers are no longer than all items
-small_woven : {A B R Q : Type 0} (fit : Fit) (most : ℕ) (k v : Shape) (knows : Names → Type 0) (keys : Spelling A R) (vals : Spelling B Q) (l : ℕ) (w : Spelling (List (A × B)) (Option ℕ))
+pub small_woven : {A B R Q : Type 0} (fit : Fit) (most : ℕ) (k v : Shape) (knows : Names → Type 0) (keys : Spelling A R) (vals : Spelling B Q) (l : ℕ) (w : Spelling (List (A × B)) (Option ℕ))
     (xs : List (A × B)) (xss : List (List (A × B))) (es : List (A × B)) → IsWoven xs xss es → length xs < 2 ^ 32 → AllSmall fit most k v knows keys vals l w xss
 small_woven fit most k v knows keys vals l w xs [] es h small = tt
 small_woven fit most k v knows keys vals l w xs (c ∷ []) [] h small = (subst (λ z. length z < 2 ^ 32) h small, tt)

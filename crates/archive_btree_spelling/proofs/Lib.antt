@@ -13,6 +13,7 @@ pub mod PairsStand
 pub mod Parting
 pub mod Planned
 pub mod Reached
+pub mod Readable
 pub mod Samples
 pub mod Seen
 pub mod Shares

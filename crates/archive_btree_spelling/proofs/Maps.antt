@@ -165,7 +165,7 @@ module _ {A B R Q : Type 0} (fit : Fit) (most : ℕ) (k v : Shape) (knows : Name
         refused r pos e f (inl g) = link_exact r pos e f.0 g
         refused r pos e f (inr g) = let h = g.0 in let small = f.1 in omega (arith, h, small)
 
-  each_entry : Spells fit k knows keys → Spells fit v knows vals → (xs : List (A × B)) → EachEntrySpells fit most k v knows keys vals xs
+  pub each_entry : Spells fit k knows keys → Spells fit v knows vals → (xs : List (A × B)) → EachEntrySpells fit most k v knows keys vals xs
   each_entry f g [] = tt
   each_entry f g (x ∷ xs) = ((f x.0, g x.1), each_entry f g xs)
 

@@ -2,7 +2,6 @@
 use Rattle.std.proofs.Common.{◌≡◌, ℕ, ◌+◌, ◌*◌, ◌^◌, ◌≤◌, ◌<◌, nat_le, ◌==◌, Bool, true, false, List, [], ◌∷◌, ◌++◌, refl, length, sym, ap, ap₂, subst, ◌∙◌, arith, Option, Some, None, inl, inr, length-append, add-zero, eqb-true, eq-eqb}
 use Rattle.std.specs.Prelude.{⊤}
 use Rattle.std.proofs.lemmas.Bool.Decides.{nat_tests}
-use Rattle.std.specs.Int.{w32, cast_unsigned}
 use Rattle.archive_shape_layout.specs.Bytes.{window, word_at, target_from}
 use Rattle.archive_shape_layout.specs.Shape.{Shape}
 use Rattle.archive_shape_layout.specs.Value.{Value, Values, append_values, count_values}
@@ -28,8 +27,7 @@ use Rattle.archive_forms_laws.specs.Spelling.{Spelling, state_after}
 use Rattle.archive_forms_laws.specs.Spells.{CanonicalPart}
 use Rattle.archive_forms_laws.specs.Regions.{state_after_all, resolvers, values, plain_values, all_suit, pieces, pieces_fit, pieces_refused}
 use Rattle.archive_forms_laws.proofs.States.{from_earlier}
-use Rattle.archive_forms_laws.proofs.Gaps.{bytes_none, bytes_append, bytes_word}
-use Rattle.archive_shape.specs.Offsets.{difference}
+use Rattle.archive_forms_laws.proofs.Gaps.{bytes_none, bytes_append}
 use Rattle.archive_forms_laws.proofs.Regions.{CanonicalParts, more_parts}
 use Rattle.archive_forms_laws.proofs.Pointers.{offset_stands, one_part}
 use Rattle.archive_forms_laws.specs.Links.{link_bytes, LinkFits}
@@ -47,7 +45,7 @@ count_keys_alone no_values = refl
 count_keys_alone (more_values v vs) = ap (λ z. 1 + z) (count_keys_alone vs)
 
 -- an offset back does not lead to nothing
-leads_back : (pos word root : ℕ) → target_from pos word ≡ Some root → root < pos → (word == 1) ≡ false
+pub leads_back : (pos word root : ℕ) → target_from pos word ≡ Some root → root < pos → (word == 1) ≡ false
 leads_back pos word root e before = tested (word == 1) refl
   where
     tested : (b : Bool) → (word == 1) ≡ b → (word == 1) ≡ false

@@ -2,6 +2,7 @@
 ghost use Rattle.std.specs.Prelude.{[]};
 
 use crate::archives::root_of;
+use crate::ranges::is_word;
 use crate::writing::{Memory, archive_of};
 use archive_btree::{ArchivedBTreeMap, OwnedBTreeMap, eq_btree_map};
 use archive_core_validation::HighValidator;
@@ -13,6 +14,7 @@ use std::alloc::Global;
 use std::boxed::BoxedStr;
 use std::collections::BTreeMap;
 use std::num::{NonZeroI8, NonZeroU8};
+use std::ops::Bound;
 
 /// Returns the map from the first key to 1 and from the second to 2, or `None` if memory runs out.
 fn two<K: Ord + Drop>(alloc: Global, first: K, second: K) -> Option<BTreeMap<K, u32>> {
@@ -148,6 +150,81 @@ fn texts_are_found(rt: HostRuntime) {
             && of_texts(alloc, "foo") == Some([Some(2); 4])
             && of_texts(alloc, "hello") == Some([None; 4])
     );
+}
+
+/// Checks whether the archive of a map, whose keys are read as `A`, has a key as `has` says, and whether the numbers of the
+/// keys that are not less are these, in order. Returns `None` if memory runs out.
+fn begins<K: Serialize<Memory> + Ord + Drop, A: ArchivedKey<Q> + CheckBytes<HighValidator>, Q>(
+    alloc: Global,
+    map: Option<BTreeMap<K, u32>>,
+    query: &Q,
+    has: bool,
+    numbers: &[u32],
+) -> Option<bool>
+    requires { A.knows [] }
+{
+    let owned: OwnedBTreeMap<K, u32, 5> = OwnedBTreeMap { map: map? };
+    let bytes = archive_of(alloc, &owned)?;
+    let root = root_of::<ArchivedBTreeMap<A, ArchivedU32, 5>>(alloc, bytes.as_slice())?;
+    let bounds: (Bound<&Q>, Bound<&Q>) = (Bound::Included(query), Bound::Unbounded);
+    let mut met = 0usize;
+    for (_key, number) in ArchivedBTreeMap::range::<Q, _>(root, bounds) {
+        match numbers.get(met) {
+            Some(expected) if is_word(bytes.as_slice(), number.pos(), *expected) => {}
+            _ => return Some(false),
+        }
+        met = met.saturating_add(1);
+    }
+    Some(met == numbers.len() && ArchivedBTreeMap::contains_key(root, query) == has)
+}
+
+#[test]
+fn ranges_begin_at_truth_values_and_chars(rt: HostRuntime) {
+    let alloc = rt.alloc();
+    let rows: [(bool, &[u32]); 2] = [(false, &[1, 2]), (true, &[2])];
+    for (query, numbers) in rows {
+        let map = two(alloc, false, true);
+        assert!(rt; begins::<bool, bool, bool>(alloc, map, &query, true, numbers) == Some(true));
+    }
+    let rows: [(char, bool, &[u32]); 3] = [
+        ('a', false, &[2, 1]),
+        ('ä', true, &[1]),
+        ('ö', false, &[]),
+    ];
+    for (query, has, numbers) in rows {
+        let map = two(alloc, 'ä', 'z');
+        assert!(rt;
+            begins::<char, ArchivedChar, char>(alloc, map, &query, has, numbers) == Some(true)
+        );
+    }
+}
+
+#[test]
+fn ranges_begin_at_pairs_and_texts(rt: HostRuntime) {
+    let alloc = rt.alloc();
+    let rows: [((u8, u8), bool, &[u32]); 3] = [
+        ((1, 200), true, &[1, 2]),
+        ((1, 201), false, &[2]),
+        ((2, 31), false, &[]),
+    ];
+    for (query, has, numbers) in rows {
+        let map = two(alloc, (1, 200), (2, 30));
+        assert!(rt;
+            begins::<(u8, u8), ArchivedTuple2<u8, u8>, (u8, u8)>(alloc, map, &query, has, numbers)
+                == Some(true)
+        );
+    }
+    let rows: [(&str, bool, &[u32]); 3] = [
+        ("foo", true, &[2, 1]),
+        ("g", false, &[1]),
+        ("i", false, &[]),
+    ];
+    for (query, has, numbers) in rows {
+        let map = texts(alloc);
+        assert!(rt;
+            begins::<String, ArchivedString, &str>(alloc, map, &query, has, numbers) == Some(true)
+        );
+    }
 }
 
 /// Returns whether the archive of a map of texts is equal to the map that it was made of, and to one with another key.

@@ -2,6 +2,8 @@
 #![tactic(auto)]
 
 #[cfg(test)]
+mod answers;
+#[cfg(test)]
 mod archives;
 #[cfg(test)]
 mod checking;
@@ -9,6 +11,8 @@ mod checking;
 mod comparing;
 #[cfg(test)]
 mod composed;
+#[cfg(test)]
+mod cursors;
 #[cfg(test)]
 mod keys;
 #[cfg(test)]

@@ -6,7 +6,7 @@ use std::alloc::Global;
 use std::ops::{Bound, RangeBounds};
 
 /// Checks whether the word at a position is a number.
-fn is_word(bytes: &[u8], pos: usize, number: u32) -> bool {
+pub(crate) fn is_word(bytes: &[u8], pos: usize, number: u32) -> bool {
     match bytes.get(pos..pos.saturating_add(4)) {
         Some(word) => word == number.to_le_bytes().as_slice(),
         None => false,

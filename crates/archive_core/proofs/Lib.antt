@@ -2,6 +2,5 @@ pub mod Apart
 pub mod From
 pub mod Joined
 pub mod Laid
-pub mod Parts
-pub mod Reached
+pub mod Roots
 pub mod Unshared

@@ -2,7 +2,8 @@
 ghost use Rattle.archive_forms.specs.Alike.{AlikeAreEqual};
 ghost use Rattle.archive_forms.specs.Faithful.{AreFaithful};
 ghost use Rattle.archive_core.specs.Laws.{WrittenIsAccepted, ReadBackIsWritten, ReadBackIsEqual, UnsharedSuits, UnsharedIsAccepted, UnsharedIsReadBack, KeysStandApart};
-ghost use Rattle.archive_core.specs.Parts.{BoxedIsReadable, BoxedIsWritten, ElementsAreReadable, ElementsAreWritten, ErrIsReadable, ErrIsWritten, Fields2AreReadable, Fields2AreWritten, Fields3AreReadable, Fields3AreWritten, Fields4AreReadable, Fields4AreWritten, KeptIsReadable, KeptIsWritten, OkIsReadable, OkIsWritten, PartIsHeld, RootIsReadable, RootIsWritten, SeenIsReadable, SeenIsWritten, SomeIsReadable, SomeIsWritten};
+ghost use Rattle.archive_core.specs.Roots.{RootIsReadable, RootIsWritten};
+ghost use Rattle.archive_forms_writing.specs.Readable.{BoxedIsReadable, BoxedIsWritten, ElementsAreReadable, ElementsAreWritten, ErrIsReadable, ErrIsWritten, Fields2AreReadable, Fields2AreWritten, Fields3AreReadable, Fields3AreWritten, Fields4AreReadable, Fields4AreWritten, KeptIsReadable, KeptIsWritten, OkIsReadable, OkIsWritten, PartIsHeld, SeenIsReadable, SeenIsWritten, SomeIsReadable, SomeIsWritten};
 
 pub use archive_core_validation::{nesting_is_bounded, unlimited_is_no_limit};
 pub use archive_forms::laws::{

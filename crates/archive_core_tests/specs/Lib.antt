@@ -1,2 +1,3 @@
 pub mod Cyclic
+pub mod Forms
 pub mod Towers

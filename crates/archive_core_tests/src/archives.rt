@@ -6,7 +6,9 @@ ghost use Rattle.archive_shape_canonical.specs.Settled.{Fit};
 ghost use Rattle.archive_forms_laws.specs.State.{Keys};
 ghost use Rattle.archive_forms_laws.specs.Unshared.{holds_shared};
 
+mod equal;
 mod own_struct;
+mod parts;
 mod written;
 
 use archive_core::laws::{fault_refuses, read_back_is_written, written_is_accepted};

@@ -1,4 +1,4 @@
-//! The example program: a player is archived, read in place, edited in place, and read back.
+//! The example program: a player is archived, read in place, edited in place, and read back as an equal player.
 #![tactic(auto)]
 
 ghost use Rattle.std.specs.Prelude.{⊤};
@@ -10,7 +10,7 @@ use archive_core::{
     ArchivedI32, ArchivedOption, ArchivedString, ArchivedVec, Error, Ref, access, access_mut,
     from_bytes, native_of, to_bytes,
 };
-use archive_example_player::{ArchivedPlayer, Player};
+use archive_example_player::{ArchivedPlayer, Player, read_back};
 use std::alloc::Global;
 use std::io;
 use thiserror::Error as Described;
@@ -82,5 +82,7 @@ fn main(rt: HostRuntime) -> Result<(), Fault> {
     print_fields(&rt, access::<ArchivedPlayer>(alloc, &bytes)?)?;
     let player = from_bytes::<Player>(alloc, &bytes)?;
     println!(rt; "{} of level {}", player.name, player.level)?;
+    let again = read_back(alloc, &player)?;
+    println!(rt; "archived again and read back equal: {}", again == player)?;
     Ok(())
 }

@@ -7,7 +7,9 @@
 mod archived;
 mod laws;
 mod player;
+mod round_trip;
 
 pub use archived::ArchivedPlayer;
 pub use laws::player_is_faithful;
 pub use player::Player;
+pub use round_trip::{alike_players_are_equal, read_back};

@@ -22,7 +22,7 @@ use archive_core::{
 };
 
 /// A player: the level that was reached, a name, and the scores of the games that were played, if they are kept.
-#[derive(Drop)]
+#[derive(Drop, PartialEq)]
 pub struct Player {
     pub level: u8,
     pub name: String,

@@ -45,7 +45,7 @@ module _ {T : Type 0} (at value : Ref T) (same : at ≡ value) where
       let equal : natural n ≡ natural m = told (natural m) (subst (λ (r : Ref T). HeldAt number_shape any r.bytes.now r.pos (natural m)) same held) in
       cc
 
-  -- likewise a text
+  -- the text at a position is the one that the layout has there
   pub text_told : (t : List ℕ) (s : String Global) → IsText value.bytes.now value.pos t
       → HeldAt text any at.bytes.now at.pos (string (string_bytes s))
       → t ≡ string_bytes s

@@ -1,6 +1,6 @@
 -- What maps answer for a key, and look-ups in archived ones.
 use denote.Bor.{Bor}
-use Rattle.std.specs.Prelude.{◌≡◌, ℕ, List, Option, String}
+use Rattle.std.specs.Prelude.{◌≡◌, ℕ, List, [], Option, String}
 use Rattle.std.specs.Cmp.Lexicographic.{slice_cmp}
 use Rattle.std.specs.Global.{Global}
 use Rattle.std.specs.List.{find, slice_get}
@@ -8,18 +8,17 @@ use Rattle.std.specs.Option.{option_map, option_and_then}
 use Rattle.std.specs.Ordering.{is_eq, nat_cmp}
 use Rattle.std.specs.String.{string_bytes}
 use Rattle.std.specs.declared.cmp.Ordering.{Ordering}
-use Rattle.std.specs.declared.default.Default.{Ghosts as Default}
-use Rattle.std.specs.declared.hash.Hasher.{Ghosts as Hasher}
 use Rattle.archive_shape_layout.specs.Content.{Names}
 use Rattle.archive_shape_layout.specs.Shape.{Shape}
 use Rattle.archive_shape_layout.specs.Shape.Shape.{text}
+use Rattle.archive_shape_canonical.specs.Settled.{free}
+use Rattle.archive_shape.specs.declared.references.refs.Ref.{Ref}
 use Rattle.archive_forms_laws.specs.Spelling.{Spelling}
+use Rattle.archive_forms_laws.specs.State.{Keys}
 use Rattle.archive_forms_writing.specs.Owned.{string_spelling}
-use Rattle.archive_btree.specs.Answering as ordered
-use Rattle.archive_hash_maps.specs.Calls.Keys.{Hashes}
-use Rattle.archive_hash.specs.Answering.{AnswersKeys}
-use Rattle.archive_hash.specs.Calls.Members.{HashMembers, KeyMembers}
-use Rattle.archive_example_stock.specs.Stock.{number_shape, any}
+use Rattle.archive_forms_writing.specs.Readable.{FindsReadable}
+use Rattle.archive_btree.specs.Answering.{AnswersKeys}
+use Rattle.archive_example_stock.specs.Stock.{number_shape, number_spelling, any}
 
 -- the price of a ware: that of the first entry with its name
 abbrev pub price_with : (name : List ℕ) → List (String Global × ℕ) → Option ℕ
@@ -29,6 +28,11 @@ price_with name es = option_map (λ e. e.1) (find (λ e. is_eq (slice_cmp nat_cm
 abbrev pub price_among : {M : Type 0} → (M → List (String Global × ℕ)) → (shop : ℕ) (name : List ℕ) → List M → Option ℕ
 price_among entries shop name shops = option_and_then (λ prices. price_with name (entries prices)) (slice_get shops shop)
 
+-- the price of a ware in a branch: none if there is no such branch
+abbrev pub price_within : {M : Type 0} → (M → List (String Global × ℕ)) → (branch name : List ℕ) → List (String Global × M) → Option ℕ
+price_within entries branch name branches =
+    option_and_then (λ b. price_with name (entries b.1)) (find (λ b. is_eq (slice_cmp nat_cmp (string_bytes b.0) branch)) branches)
+
 -- the count of a shelf: that of the first entry with its number
 abbrev pub count_with : (shelf : ℕ) → List (ℕ × ℕ) → Option ℕ
 count_with shelf es = option_map (λ e. e.1) (find (λ e. is_eq (nat_cmp e.0 shelf)) es)
@@ -37,18 +41,17 @@ count_with shelf es = option_map (λ e. e.1) (find (λ e. is_eq (nat_cmp e.0 she
 abbrev pub shelf_with : (shelf : ℕ) → List (ℕ × String Global) → Option (List ℕ)
 shelf_with shelf es = option_map (λ e. string_bytes e.1) (find (λ e. is_eq (nat_cmp e.0 shelf)) es)
 
--- a look-up in the map at a position returns the number of the first entry with a key, where the map answers for entries
-abbrev pub ReturnsNumber : {A R P Q H : Type 0} → KeyMembers Q → (A → Q) → Spelling A R → Spelling ℕ P → HashMembers Q → Default H → Hasher H
-    → (bytes : List ℕ) (pos : ℕ) (query : Q) (result : Option ℕ) → Type 0
-ReturnsNumber {A = A} k key keys numbers queries default hasher bytes pos query result =
-    (es : List (A × ℕ))
-    → AnswersKeys k.shape number_shape k.knows any keys numbers bytes key k.order (λ q. Hashes default hasher (queries.hash_input q)) k.key_of pos es
-    → result ≡ option_map (λ e. e.1) (find (λ e. is_eq (k.order (key e.0) query)) es)
+-- the number of the first entry is returned, where a look-up found its value, which can be read
+abbrev pub ReturnsNumber : {C : Type 0} (K : Type 0) (found : Option (Ref C)) (result : Option ℕ) → Type 0
+ReturnsNumber K found result =
+    (keys : Keys) (first : Option (K × ℕ))
+    → FindsReadable free [] keys number_shape number_spelling first found
+    → result ≡ option_map (λ e. e.1) first
 
 -- a look-up in a map of ordered keys returns the text of the entry with a key, where the map answers for entries
 abbrev pub ReturnsText : {A R Q : Type 0} (most : ℕ) (k : Shape) (knows : Names → Type 0) → (A → Q) → (Q → Q → Ordering) → (List ℕ → ℕ → Q → Type 0) → Spelling A R
     → (bytes : List ℕ) (pos : ℕ) (query : Q) (result : Option (Bor (List ℕ))) → Type 0
 ReturnsText {A = A} most k knows key order key_of keys bytes pos query result =
     (es : List (A × String Global))
-    → ordered.AnswersKeys most k text knows any keys string_spelling bytes key order key_of pos es
+    → AnswersKeys most k text knows any keys string_spelling bytes key order key_of pos es
     → option_map (λ t. t.now) result ≡ option_map (λ e. string_bytes e.1) (find (λ e. is_eq (order (key e.0) query)) es)

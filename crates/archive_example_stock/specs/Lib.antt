@@ -1,3 +1,5 @@
 pub mod Answers
+pub mod Edited
+pub mod ReadBack
 pub mod Stock
 pub mod Written

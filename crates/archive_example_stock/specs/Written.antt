@@ -10,7 +10,7 @@ use Rattle.archive_shape_canonical.specs.Settled.{free}
 use Rattle.archive_forms_laws.specs.Spelling.{Spelling}
 use Rattle.archive_forms_laws.specs.State.{Keys}
 use Rattle.archive_forms_rc.specs.declared.sharing.keyed.Shared.{Shared}
-use Rattle.archive_core.specs.Parts.{IsReadableAt}
+use Rattle.archive_forms_laws.specs.WrittenAt.{IsReadableAt}
 
 -- labels with one key have one text
 pub record HaveOneText (labels : List (Shared (RcStr Global))) : Type 0 where

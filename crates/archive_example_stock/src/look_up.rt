@@ -3,12 +3,12 @@ ghost use Rattle.std.specs.Prelude.{◌≡◌, IfOk};
 ghost use Rattle.archive_example_stock.specs.Answers.{price_with};
 
 use crate::archived::ArchivedPrices;
-use crate::numbers::number_of;
+use crate::numbers::number_found;
 use crate::written::each_is_a_byte;
 use archive_core::laws::{root_is_written, unshared_suits};
 use archive_core::{Error, access, to_bytes};
-use archive_hash::OwnedHashMap;
-use archive_hash::laws::map_written_at_answers;
+use archive_hash::laws::values_are_readable;
+use archive_hash::{ArchivedHashMap, OwnedHashMap};
 use std::alloc::Global;
 
 /// Archives a map of prices, and returns the price of a ware in the archive: that of the map.
@@ -21,10 +21,10 @@ pub fn look_up(
 {
     root_is_written::<OwnedHashMap<String, u32>>();
     unshared_suits::<OwnedHashMap<String, u32>>();
-    map_written_at_answers::<&str, String, u32>();
+    values_are_readable::<&str, String, u32>();
     let bytes = to_bytes(alloc, owned)?;
-    each_is_a_byte(&bytes);
     let archive = bytes.as_slice();
     let root = access::<ArchivedPrices>(alloc, archive)?;
-    Ok(number_of::<&str, String>(root, &key))
+    each_is_a_byte(root.bytes);
+    Ok(number_found::<String>(ArchivedHashMap::get(root, &key)))
 }

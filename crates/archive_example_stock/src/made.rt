@@ -1,4 +1,4 @@
-//! The stock and the shops that the program archives.
+//! The stock, the shops and the branches that the program archives.
 ghost use Rattle.std.specs.Prelude.{IfOk};
 ghost use Rattle.archive_example_stock.specs.Written.{HaveOneText};
 
@@ -77,6 +77,23 @@ pub fn shops(alloc: Global) -> Result<Vec<OwnedHashMap<String, u32>>, Error> {
     let wares = prices(alloc)?;
     let shops = vec![in alloc; nothing, wares]?;
     Ok(shops)
+}
+
+/// Returns the prices of two branches by their names, of which the second has nothing.
+pub fn branches(alloc: Global) -> Result<OwnedHashMap<String, OwnedHashMap<String, u32>>, Error> {
+    let mut map = HashMap::new(alloc);
+    let harbour = String::from_str(alloc, "harbour")?;
+    if map.insert(harbour, prices(alloc)?).is_err() {
+        return Err(Error::OutOfMemory);
+    }
+    let station = String::from_str(alloc, "station")?;
+    let nothing = OwnedHashMap {
+        map: HashMap::new(alloc),
+    };
+    if map.insert(station, nothing).is_err() {
+        return Err(Error::OutOfMemory);
+    }
+    Ok(OwnedHashMap { map })
 }
 
 /// Returns a stock of nails, screws and hammers.

@@ -1,24 +1,19 @@
-//! Look-ups of numbers in archived hash maps.
-ghost use Rattle.archive_hash_maps.specs.Maps.{HasMap};
+//! The numbers that look-ups in archived maps found.
+ghost use Rattle.std.specs.Prelude.{IfSome};
+ghost use Rattle.archive_forms_values.specs.Parts.{HasValue};
 ghost use Rattle.archive_example_stock.specs.Stock.{number_shape, any};
 ghost use Rattle.archive_example_stock.specs.Answers.{ReturnsNumber};
 
-use archive_core::{Archive, ArchivedU32, Ref, native_of};
-use archive_hash::{ArchivedHashMap, FxHasher64, HashedKeyOf};
-use std::hash::{Hash, Hasher};
+use archive_core::laws::part_is_held;
+use archive_core::{ArchivedU32, Ref, native_of};
 
-/// Returns the number of a key in an archived map, if the map has the key.
-pub fn number_of<Q: Hash, K: Archive + Hash>(
-    map: Ref<'_, ArchivedHashMap<K::Archived, ArchivedU32, FxHasher64>>,
-    query: &Q,
-) -> Option<u32>
-where
-    K::Archived: HashedKeyOf<K, Q>,
-    requires { HasMap K.Archived.shape number_shape K.Archived.knows any map }
-    ensures { ReturnsNumber K.Archived.HashedKey K.Archived.key K.spelling ⟦<u32 as Archive>⟧.spelling Q.Hash
-        ⟦<FxHasher64 as Default>⟧ ⟦<FxHasher64 as Hasher>⟧ map.entry.bytes.now map.entry.pos query.now result }
+/// Returns the number that a look-up found, if it found one: that of the first entry with the key.
+pub fn number_found<K>(found: Option<Ref<'_, ArchivedU32>>) -> Option<u32>
+    requires { IfSome found (λ number. HasValue number_shape any number.bytes.now number.pos) }
+    ensures { ReturnsNumber K found.entry result }
 {
-    match ArchivedHashMap::get(map, query) {
+    part_is_held::<u32>();
+    match found {
         Some(number) => Some(native_of(number)),
         None => None,
     }

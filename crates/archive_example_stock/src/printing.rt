@@ -1,8 +1,9 @@
 //! What the program prints.
 ghost use Rattle.archive_example_stock.specs.Written.{HaveOneText};
 
+use crate::branches::price_in_branch;
 use crate::fault::Fault;
-use crate::in_archive::{count_in_archive, price_in_archive, shelf_in_archive};
+use crate::in_archive::{count_after_edit, count_in_archive, price_in_archive, shelf_in_archive};
 use crate::look_up::look_up;
 use crate::shops::price_in_shop;
 use crate::stock::Stock;
@@ -51,6 +52,30 @@ pub fn print_shops<R: Print>(
     for shop in 0..3 {
         let price = price_in_shop(alloc, shops, shop, "nails")?;
         print_number(rt, "price of nails in a shop", price)?;
+    }
+    Ok(())
+}
+
+/// Prints what nails cost in each branch, and where there is no branch, as looked up in the archive of the branches.
+pub fn print_branches<R: Print>(
+    rt: &R,
+    alloc: Global,
+    branches: &OwnedHashMap<String, OwnedHashMap<String, u32>>,
+) -> Result<(), Fault> {
+    for branch in ["harbour", "station", "airport"] {
+        let price = price_in_branch(alloc, branches, branch, "nails")?;
+        print_number(rt, "price of nails in a branch", price)?;
+    }
+    Ok(())
+}
+
+/// Prints the counts of each shelf after that of shelf 7 was written over in the archive of a stock.
+pub fn print_edits<R: Print>(rt: &R, alloc: Global, stock: &Stock) -> Result<(), Fault>
+    requires { HaveOneText stock.now.labels.items }
+{
+    for shelf in [7, 8, 9] {
+        let count = count_after_edit(alloc, stock, 7, 119, shelf)?;
+        print_number(rt, "count of a shelf after the edit", count)?;
     }
     Ok(())
 }

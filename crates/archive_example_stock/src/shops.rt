@@ -11,12 +11,12 @@ ghost use Rattle.archive_example_stock.specs.Stock.{prices_shape, any_entry};
 ghost use Rattle.archive_example_stock.specs.Written.{HasWritten};
 
 use crate::archived::ArchivedPrices;
-use crate::numbers::number_of;
+use crate::numbers::number_found;
 use crate::written::each_is_a_byte;
 use archive_core::laws::{elements_are_written, part_is_held, root_is_written, unshared_suits};
 use archive_core::{Archive, ArchivedVec, Error, Ref, access, to_bytes};
-use archive_hash::OwnedHashMap;
-use archive_hash::laws::map_written_at_answers;
+use archive_hash::laws::values_are_readable;
+use archive_hash::{ArchivedHashMap, OwnedHashMap};
 use std::alloc::Global;
 
 /// A list has as many values as elements.
@@ -36,9 +36,9 @@ fn price_at(root: Ref<'_, ArchivedVec<ArchivedPrices>>, shop: usize, name: &str)
     elements_are_written::<OwnedHashMap<String, u32>>();
     part_is_held::<Vec<OwnedHashMap<String, u32>>>();
     unshared_suits::<OwnedHashMap<String, u32>>();
-    map_written_at_answers::<&str, String, u32>();
+    values_are_readable::<&str, String, u32>();
     match ArchivedVec::get(root, shop) {
-        Some(prices) => number_of::<&str, String>(prices, &name),
+        Some(prices) => number_found::<String>(ArchivedHashMap::get(prices, &name)),
         None => None,
     }
 }

@@ -36,7 +36,7 @@ use Rattle.archive_forms_laws.proofs.Regions.{slice_canonical, boxed_canonical, 
 use Rattle.archive_forms_laws.specs.Unshared.{holds_shared}
 use Rattle.archive_forms_laws.proofs.Unshared.{each_unshared}
 use Rattle.archive_forms_laws.proofs.Views.{each_spells}
-use Rattle.archive_shape_layout.proofs.Windows.{word_within}
+use Rattle.archive_shape_layout.proofs.Windows.{word_of, word_within}
 
 leads : (from to : ℕ) (z : ℤ) → z ≡ difference from to → FitsSigned w32 z → target_from from (cast_unsigned w32 z) ≡ Some to
 unfolding target_from
@@ -70,6 +70,12 @@ pub offset_stands : (bytes : List ℕ) (from to size : ℕ) → 4 ≤ size → F
 offset_stands bytes from to size room f s =
     ap (target_from from) (word_within bytes from size 0 room ∙ ap (word_at bytes) (add-zero from) ∙ stands_word bytes from (cast_unsigned w32 (difference from to)) (word_small (difference from to) f) s)
     ∙ offset_leads from to f
+
+-- a pointer leads to one position
+pub leads_to : (bytes : List ℕ) (from to target : ℕ) → FitsOffset from target → HasBytes bytes from (offset_bytes from target) → target_from from (word_at bytes from) ≡ Some to → target ≡ to
+leads_to bytes from to target near stands points =
+    let both : Some target ≡ Some to = sym (offset_stands bytes from target 4 (omega arith) near stands) ∙ ap (target_from from) (word_of bytes from) ∙ points in
+    cc
 
 -- an offset and the number after it are read as a target and a number of elements
 pub unsized_leads : (bytes : List ℕ) (from to n : ℕ) (k : ℕ → ℕ → Content) → FitsOffset from to → n < 2 ^ 32

@@ -1,2 +1,3 @@
+pub mod Labelled
 pub mod Lists
 pub mod Recursive

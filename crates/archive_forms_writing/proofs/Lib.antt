@@ -7,6 +7,9 @@ pub mod Loops
 pub mod Options
 pub mod Pairs
 pub mod Parts
+pub mod FoundReadable
+pub mod Reached
+pub mod Readable
 pub mod Regions
 pub mod Results
 pub mod Root

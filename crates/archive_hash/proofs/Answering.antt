@@ -37,7 +37,7 @@ use Rattle.archive_hash_probing.proofs.Fit.{IsFirstFit}
 use Rattle.archive_hash_probing.proofs.Reached.{written_reaches, written_tag}
 use Rattle.archive_hash_probing.proofs.Small.{input_hash_small}
 use Rattle.archive_hash_probing.proofs.Walks.{answer_as}
-use Rattle.archive_hash_maps.specs.Tables.{no_buckets, item_position, item_positions}
+use Rattle.archive_hash_maps.specs.Tables.{Buckets, IsTableAt, no_buckets, item_position, item_positions}
 use Rattle.archive_hash_maps.specs.Places.{LooksUp}
 use Rattle.archive_hash_maps.specs.Places.LooksUp.{has_no_places, has_places}
 use Rattle.archive_hash_maps.specs.Maps.{KeySays, HasKey}
@@ -45,7 +45,7 @@ use Rattle.archive_hash_maps.proofs.Found.{none_looked_up}
 use Rattle.archive_hash_writing.specs.Fitted.{capacity_of, places_of, by_place, controls_of}
 use Rattle.archive_hash_writing.proofs.SpellingFitting.{above, are_apart, by_place_moved, length-places, places_fit}
 use Rattle.archive_hash_writing.proofs.WrittenItems.{HasItem, IsFilledTable, HasWrittenPlaces, root_places, filled_table, empty_table}
-use Rattle.archive_hash.specs.Answering.{IsWrittenMap, HasEntry, FindsFirst, AnswersKeys, first_with, map_spelling}
+use Rattle.archive_hash.specs.Answering.{IsWrittenMap, HasEntry, AnswersKeys, first_with, map_spelling}
 
 -- ---- the first element that passes
 
@@ -242,6 +242,10 @@ module _ {A B R P : Type 0} (k v : Shape) (knows others : Names → Type 0) (key
               let f = first_entry e first in
               (f, first_is hash n place is_hash a f.index f.within f.passed f.before)
 
+      -- what is found is told of the first entry with the key, and nothing is found if there is none
+      abbrev pub FindsTold : (Told : ℕ → A × B → Type 0) → Q → List (A × B) → Option ℕ → Type 0
+      FindsTold Told query es found = MatchOption (first_with k v knows others keys vals bytes key order query es) (found ≡ None) (λ e. IsSomeAnd found (λ at. Told at e))
+
       -- ---- a table of entries
 
       module _ (most places : ℕ) (d : A × B) (es : List (A × B)) (some : 0 < length es) (pos : ℕ)
@@ -252,22 +256,24 @@ module _ {A B R P : Type 0} (k v : Shape) (knows others : Names → Type 0) (key
         held_at : (i : ℕ) → i < length es → Entry (Spot (get_or (places_of most places (map hash_of es) es) i 0)) (get_or es i d)
         held_at i l = entry_held (Spot (get_or (places_of most places (map hash_of es) es) i 0)) (get_or es i d) (t.each i d l)
 
-        module _ (query : Q) where
-          -- what a look-up finds
+        -- what is told of each entry at its position is told of what a look-up finds
+        module _ (Told : ℕ → A × B → Type 0) (told_at : (i : ℕ) → i < length es → Told (Spot (get_or (places_of most places (map hash_of es) es) i 0)) (get_or es i d)) (query : Q) where
           found_by : (hash n : ℕ) (found place : Option ℕ) → hash ≡ input_hash (query_fed query) → found ≡ option_map Spot place
               → IsLookup (λ p x. Says query (Spot p) x) t.buckets.controls t.buckets.cap hash place n
               → (o : Option (A × B)) → first_with k v knows others keys vals bytes key order query es ≡ o
-              → MatchOption o (found ≡ None) (λ e. IsSomeAnd found (λ at. Entry at e))
+              → MatchOption o (found ≡ None) (λ e. IsSomeAnd found (λ at. Told at e))
           found_by hash n found place is_hash is a None none =
               is ∙ ap (option_map Spot) (place_found most places d es some t.buckets.cap t.buckets.controls Spot t.cap t.controls held_at query hash n place is_hash a None none)
           found_by hash n found place is_hash is a (Some e) first =
               let f = place_found most places d es some t.buckets.cap t.buckets.controls Spot t.cap t.controls held_at query hash n place is_hash a (Some e) first in
-              subst (λ o. IsSomeAnd o (λ at. Entry at e)) (sym (is ∙ ap (option_map Spot) f.1)) f.0.entry
+              subst (λ o. IsSomeAnd o (λ at. Told at e)) (sym (is ∙ ap (option_map Spot) f.1))
+              (subst (Told (Spot (get_or (places_of most places (map hash_of es) es) f.0.index 0))) f.0.is (told_at f.0.index f.0.within))
 
-          looked_up : (hash n : ℕ) (found : Option ℕ) → hashes query hash → LooksUp (Says query) (tuple2 k v) t.buckets hash found n → FindsFirst k v knows others keys vals bytes key order es query found
+          looked_up : (hash n : ℕ) (found : Option ℕ) → hashes query hash → LooksUp (Says query) (tuple2 k v) t.buckets hash found n → FindsTold Told query es found
           looked_up hash n found h (has_no_places none e f) = absurd (let more = above most places (map hash_of es) es (length-map es hash_of) some in let is = t.cap in omega (arith, none, more, is))
           looked_up hash n found h (has_places place is a) = found_by hash n found place (one query hash h) is a (first_with k v knows others keys vals bytes key order query es) refl
 
+        module _ (query : Q) where
           -- the map has the key
           has_first : (o : Option (A × B)) → first_with k v knows others keys vals bytes key order query es ≡ o → IsSome o → HasKey (hashes query) key_of order bytes k v pos query
           has_first None none h = absurd cc
@@ -304,7 +310,7 @@ module _ {A B R P : Type 0} (k v : Shape) (knows others : Names → Type 0) (key
           walked = by_place most places (map hash_of es) es;
           permuted = by_place_moved most places (map hash_of es) es (length-map es hash_of) some;
           walks = all_held (item_positions (tuple2 k v) t.buckets) (by_place most places (map hash_of es) es) t.all;
-          finds = λ query hash n found h looks. looked_up query hash n found h looks;
+          finds = λ query hash n found h looks. looked_up Entry held_at query hash n found h looks;
           has = λ query some. has_first query (first_with k v knows others keys vals bytes key order query es) refl some;
         }
 
@@ -322,6 +328,29 @@ module _ {A B R P : Type 0} (k v : Shape) (knows others : Names → Type 0) (key
       table_of_entries_answers pos (e ∷ es) t =
           table_answers t.most t.places e (e ∷ es) (omega arith) pos
           (filled_table (tuple2 k v) (both knows others) bytes (tuple2_spelling k keys v vals) t.most t.places (map hash_of (e ∷ es)) e es (length-map (e ∷ es) hash_of) (hashes_small (e ∷ es)) pos t.state t.held (t.written (omega arith)))
+
+      -- look-ups in the table at a position find what this is told of
+      pub record FindsIn (Told : ℕ → A × B → Type 0) (pos : ℕ) (es : List (A × B)) : Type 0 where
+        pub buckets : Buckets
+        pub there : IsTableAt bytes (tuple2 k v) pos buckets
+        pub finds : (query : Q) (hash n : ℕ) (found : Option ℕ) → hashes query hash → LooksUp (Says query) (tuple2 k v) buckets hash found n → FindsTold Told query es found
+
+      pub table_of_entries_finds : (Told : ℕ → A × B → Type 0) (pos : ℕ) (es : List (A × B)) (t : IsEntryTable fed pos es)
+          → ((b : Buckets) → IsTableAt bytes (tuple2 k v) pos b → (i : ℕ) (d : A × B) → i < length es
+          → Told (item_position (tuple2 k v) b.target (get_or (places_of t.most t.places (map hash_of es) es) i 0)) (get_or es i d))
+          → FindsIn Told pos es
+      table_of_entries_finds Told pos [] t each = record {
+        buckets = no_buckets;
+        there = empty_table (tuple2 k v) (both knows others) bytes (tuple2_spelling k keys v vals) pos t.held;
+        finds = λ query hash n found h looks. none_looked_up (Says query) (tuple2 k v) hash n found looks;
+      }
+      table_of_entries_finds Told pos (e ∷ es) t each =
+          let own = filled_table (tuple2 k v) (both knows others) bytes (tuple2_spelling k keys v vals) t.most t.places (map hash_of (e ∷ es)) e es (length-map (e ∷ es) hash_of) (hashes_small (e ∷ es)) pos t.state t.held (t.written (omega arith)) in
+          record {
+            buckets = own.buckets;
+            there = own.table;
+            finds = looked_up t.most t.places e (e ∷ es) (omega arith) pos own Told (λ i l. each own.buckets own.table i e l);
+          }
 
       root_written : (es : List (A × B)) (m : IsWrittenMap k v knows others keys vals bytes fed es) → 0 < length es
           → HasWrittenPlaces (tuple2 k v) (both knows others) bytes (tuple2_spelling k keys v vals) m.most m.places (map hash_of es) (root_position (length bytes) (table (tuple2 k v))) es m.state

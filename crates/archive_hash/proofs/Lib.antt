@@ -1,4 +1,6 @@
 pub mod Answering
+pub mod Edited
+pub mod EditedOnce
 pub mod Given
 mod Inserted
 pub mod Items

@@ -1,5 +1,6 @@
 pub mod Answering
 pub mod Calls
+pub mod Edited
 pub mod Given
 pub mod Owned
 pub mod ReadBack

@@ -1,6 +1,7 @@
 //! Tests of pairs that are archived as index maps, and keys as index sets: their bytes, and which entry is found of a key
 //! that occurs twice.
 ghost use Rattle.std.specs.Prelude.{IfOk};
+ghost use Rattle.archive_hash.specs.Owned.{key_entries};
 ghost use Rattle.archive_index.specs.Answering.{IsWrittenMap};
 
 use crate::index_maps::{NOTHING, Numbers, TWO, TWO_KEYS};
@@ -8,14 +9,14 @@ use crate::index_writing::{numbered, owned};
 use crate::reading::root_of;
 use archive_core::{Archive, to_bytes};
 use archive_forms_values::{ArchivedString, native_of};
-use archive_index::laws::owned_map_is_written;
+use archive_index::laws::{owned_map_is_written, owned_set_is_written};
 use archive_index::{ArchivedIndexMap, OwnedIndexMap, OwnedIndexSet};
 use archive_shape::{ArchivedU32, Error, Portable};
 use std::alloc::Global;
 use std::hash::Hash;
 
 /// Returns the archive of pairs, which is that of an index map of them.
-fn archive_of(alloc: Global, map: &OwnedIndexMap<String, u32>) -> Result<Vec<u8>, Error>
+pub(crate) fn archive_of(alloc: Global, map: &OwnedIndexMap<String, u32>) -> Result<Vec<u8>, Error>
     ensures { IfOk result (λ bytes. IsWrittenMap ⟦<ArchivedString as Portable>⟧.shape ⟦<ArchivedU32 as Portable>⟧.shape
         ⟦<ArchivedString as Portable>⟧.knows ⟦<ArchivedU32 as Portable>⟧.knows ⟦<String as Archive>⟧.spelling
         ⟦<u32 as Archive>⟧.spelling bytes.items ⟦<String as Hash>⟧.hash_input map.now.pairs.items) }
@@ -43,12 +44,22 @@ fn pairs_are_archived_in_their_order(rt: HostRuntime) {
     assert!(rt; is_written(rt.alloc(), &["z", "a"], &TWO) && is_written(rt.alloc(), &[], &NOTHING));
 }
 
+/// Returns the archive of keys, which is that of an index map of them, each with `()`.
+fn set_archive_of(alloc: Global, set: &OwnedIndexSet<String>) -> Result<Vec<u8>, Error>
+    ensures { IfOk result (λ bytes. IsWrittenMap ⟦<ArchivedString as Portable>⟧.shape ⟦<() as Portable>⟧.shape
+        ⟦<ArchivedString as Portable>⟧.knows ⟦<() as Portable>⟧.knows ⟦<String as Archive>⟧.spelling
+        ⟦<() as Archive>⟧.spelling bytes.items ⟦<String as Hash>⟧.hash_input (key_entries set.now.keys.items)) }
+{
+    owned_set_is_written::<String>();
+    to_bytes(alloc, set)
+}
+
 /// Returns whether the index set of texts has this archive.
 fn is_set_written(alloc: Global, texts: &[&str], expected: &[u8]) -> bool {
     let Some(keys) = owned(alloc, texts) else {
         return false;
     };
-    match to_bytes(alloc, &OwnedIndexSet { keys }) {
+    match set_archive_of(alloc, &OwnedIndexSet { keys }) {
         Ok(bytes) => bytes.as_slice() == expected,
         Err(_) => false,
     }

@@ -163,3 +163,74 @@ fn equal_to_own(alloc: Global) -> Option<(bool, bool)> {
 fn maps_of_texts_are_compared_with_their_own(rt: HostRuntime) {
     assert!(rt; equal_to_own(rt.alloc()) == Some((true, false)));
 }
+
+/// Returns whether the archive of a map has a key, and whether it is equal to another map.
+fn compared<K: Serialize<Memory> + Eq + Hash + Drop, A: HashedKey<K> + CheckBytes<HighValidator>>(
+    alloc: Global,
+    map: Option<OwnedHashMap<K, u32>>,
+    key: &K,
+    other: Option<OwnedHashMap<K, u32>>,
+) -> Option<(bool, bool)>
+    requires { A.knows [] }
+{
+    let owned = map?;
+    let other = other?;
+    let bytes = archive_of(alloc, &owned)?;
+    match root_of::<ArchivedHashMap<A, ArchivedU32, FxHasher64>>(alloc, bytes.as_slice()) {
+        Ok(root) => Some((
+            ArchivedHashMap::contains_key(root, key),
+            eq_hash_map(&root, &other.map),
+        )),
+        Err(_) => None,
+    }
+}
+
+/// Returns both of the map from the first key to 1 and from the second to 2: of the second key and of that map, and of
+/// the third key and of the map from the first key to 1 and from the third to 2.
+fn compared_with_two<
+    K: Serialize<Memory> + Eq + Hash + Copy + Drop,
+    A: HashedKey<K> + CheckBytes<HighValidator>,
+>(alloc: Global, first: K, second: K, third: K) -> [Option<(bool, bool)>; 2]
+    requires { A.knows [] }
+{
+    let map = two(alloc, first, second);
+    let same = compared::<K, A>(alloc, map, &second, two(alloc, first, second));
+    let map = two(alloc, first, second);
+    [
+        same,
+        compared::<K, A>(alloc, map, &third, two(alloc, first, third)),
+    ]
+}
+
+/// What both are: the second key and that map are there, and the third key and the other map are not.
+const OWN_AND_OTHER: [Option<(bool, bool)>; 2] = [Some((true, true)), Some((false, false))];
+
+#[test]
+fn keys_of_each_type_are_contained_and_compared(rt: HostRuntime) {
+    let alloc = rt.alloc();
+    assert!(rt; compared_with_two::<bool, bool>(alloc, true, true, false) == OWN_AND_OTHER);
+    assert!(rt; compared_with_two::<char, ArchivedChar>(alloc, 'ä', 'z', 'a') == OWN_AND_OTHER);
+    assert!(rt; compared_with_two::<u8, u8>(alloc, 200, 7, 8) == OWN_AND_OTHER);
+}
+
+#[test]
+fn pairs_as_keys_are_contained_and_compared(rt: HostRuntime) {
+    type Pair = ArchivedTuple2<u8, ArchivedU16>;
+    let (first, second, third) = ((1, 300), (2, 30), (1, 30));
+    let compared = compared_with_two::<(u8, u16), Pair>(rt.alloc(), first, second, third);
+    assert!(rt; compared == OWN_AND_OTHER);
+}
+
+/// Returns whether the archive of the map of boxed texts has a text, and whether it is equal to the map itself.
+fn of_boxes(alloc: Global, key: &str) -> Option<(bool, bool)> {
+    let key = text(alloc, key)?.into_boxed_str();
+    compared::<BoxedStr, ArchivedBoxedStr>(alloc, boxes(alloc), &key, boxes(alloc))
+}
+
+#[test]
+fn boxed_texts_as_keys_are_contained_and_compared(rt: HostRuntime) {
+    assert!(rt;
+        of_boxes(rt.alloc(), "foo") == Some((true, true))
+            && of_boxes(rt.alloc(), "fo") == Some((false, true))
+    );
+}

@@ -6,6 +6,10 @@
 #[cfg(test)]
 mod checking;
 #[cfg(test)]
+mod index_answers;
+#[cfg(test)]
+mod index_lending;
+#[cfg(test)]
 mod index_maps;
 #[cfg(test)]
 mod index_owned;
@@ -17,6 +21,8 @@ mod index_writing;
 mod indexing;
 #[cfg(test)]
 mod keys;
+#[cfg(test)]
+mod lending;
 #[cfg(test)]
 mod maps;
 #[cfg(test)]

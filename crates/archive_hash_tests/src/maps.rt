@@ -6,11 +6,13 @@ use archive_core_validation::HighValidator;
 use archive_forms_comparing::ArchivedDebug;
 use archive_forms_values::ArchivedString;
 use archive_hash::SetIter;
-use archive_hash_maps::{ArchivedHashMap, ArchivedHashSet, ArchivedHashTable, eq_hash_map};
+use archive_hash_maps::{
+    ArchivedHashMap, ArchivedHashSet, ArchivedHashTable, eq_hash_map, eq_hash_set,
+};
 use archive_hash_probing::FxHasher64;
 use archive_shape::{ArchivedU32, CheckBytes, Ref, Seal};
 use std::alloc::Global;
-use std::collections::HashMap;
+use std::collections::{HashMap, HashSet};
 use std::fmt::Formatter;
 
 /// An archived map from texts to texts.
@@ -189,6 +191,52 @@ fn maps_of_the_same_pairs_are_equal(rt: HostRuntime) {
     for (pairs, is_equal) in PAIRS {
         assert!(rt; equals(rt.alloc(), pairs) == Some(is_equal));
     }
+}
+
+/// Returns whether the set of three is equal to a set of std with these texts.
+fn has_texts(alloc: Global, texts: &[&'static str]) -> Option<bool> {
+    let Ok(root) = root_of::<Keys>(alloc, &THREE_KEYS) else {
+        return None;
+    };
+    let mut other = HashSet::new(alloc);
+    for text in texts {
+        if other.insert(*text).is_err() {
+            return None;
+        }
+    }
+    Some(eq_hash_set(&root, &other))
+}
+
+#[test]
+fn sets_of_the_same_texts_are_equal(rt: HostRuntime) {
+    let alloc = rt.alloc();
+    assert!(rt;
+        has_texts(alloc, &["foo", "baz", "hello"]) == Some(true)
+            && has_texts(alloc, &["foo", "baz", "world"]) == Some(false)
+            && has_texts(alloc, &["foo", "baz"]) == Some(false)
+    );
+}
+
+/// Returns whether the set of three is equal to an archived set.
+fn equal_to_keys(alloc: Global, others: &[u8]) -> Option<bool> {
+    let Ok(this) = root_of::<Keys>(alloc, &THREE_KEYS) else {
+        return None;
+    };
+    match root_of::<Keys>(alloc, others) {
+        Ok(other) => Some(ArchivedHashSet::equals(this, other)),
+        Err(_) => None,
+    }
+}
+
+#[test]
+fn archived_sets_of_equal_keys_are_equal(rt: HostRuntime) {
+    let mut changed = THREE_KEYS;
+    changed[8] = b'H';
+    assert!(rt;
+        equal_to_keys(rt.alloc(), &THREE_KEYS) == Some(true)
+            && equal_to_keys(rt.alloc(), &changed) == Some(false)
+            && equal_to_keys(rt.alloc(), &NOTHING) == Some(false)
+    );
 }
 
 /// Returns whether two archives of maps are equal.

@@ -151,6 +151,96 @@ fn cursors_count_the_items_that_are_left(rt: HostRuntime) {
     }
 }
 
+/// Passes the entries of a map, and returns whether these have the given positions of their keys and values, each with
+/// the given number of entries left after it.
+fn passes_entries<K: Portable, V: Portable, H>(
+    map: Seal<'_, ArchivedHashMap<K, V, H>>,
+    expected: &[(usize, usize, usize)],
+) -> bool
+    requires { HasValue (table (tuple2 K.shape V.shape)) (both K.knows V.knows) map.bytes.now map.pos }
+{
+    let mut met = 0;
+    let mut are_met = true;
+    let mut entries = ArchivedHashMap::iter_seal(map);
+    while let Some(entry) = entries.advance() {
+        are_met = are_met && expected.get(met) == Some(&(entry.key, entry.value, entries.len()));
+        met = usize::wrapping_add(met, 1);
+    }
+    are_met && met == expected.len()
+}
+
+/// Passes the values of a map, and returns whether these have the given positions, each with the given number of values
+/// left after it.
+fn passes_values<K: Portable, V: Portable, H>(
+    map: Seal<'_, ArchivedHashMap<K, V, H>>,
+    expected: &[(usize, usize)],
+) -> bool
+    requires { HasValue (table (tuple2 K.shape V.shape)) (both K.knows V.knows) map.bytes.now map.pos }
+{
+    let mut met = 0;
+    let mut are_met = true;
+    let mut values = ArchivedHashMap::values_seal(map);
+    while let Some(at) = values.advance() {
+        are_met = are_met && expected.get(met) == Some(&(at, values.len()));
+        met = usize::wrapping_add(met, 1);
+    }
+    are_met && met == expected.len()
+}
+
+/// Passes the items of a table, and returns whether these have the given positions, each with the given number of
+/// items left after it.
+fn passes_items<T: Portable>(
+    of: Seal<'_, ArchivedHashTable<T>>,
+    expected: &[(usize, usize)],
+) -> bool
+    requires { HasValue (table T.shape) T.knows of.bytes.now of.pos }
+{
+    let mut met = 0;
+    let mut are_met = true;
+    let mut items = ArchivedHashTable::raw_iter_seal(of);
+    while let Some(at) = items.advance() {
+        are_met = are_met && expected.get(met) == Some(&(at, items.len()));
+        met = usize::wrapping_add(met, 1);
+    }
+    are_met && met == expected.len()
+}
+
+/// Returns whether cursors over the entries, the values and the items of a map pass these entries.
+fn are_passed(alloc: Global, bytes: &mut [u8], entries: &[(usize, usize, usize)]) -> Option<bool> {
+    let (mut values, mut items) = (Vec::new(alloc), Vec::new(alloc));
+    for (key, value, left) in entries {
+        if values.push((*value, *left)).is_err() || items.push((*key, *left)).is_err() {
+            return None;
+        }
+    }
+    let Ok(root) = root_of::<Texts>(alloc, bytes) else {
+        return None;
+    };
+    let pos = root.pos();
+    let of_entries = passes_entries(Seal::<Texts>::new(bytes, pos), entries);
+    let Ok(root) = root_of::<Texts>(alloc, bytes) else {
+        return None;
+    };
+    let pos = root.pos();
+    let of_values = passes_values(Seal::<Texts>::new(bytes, pos), &values);
+    let Ok(root) = root_of::<Entries>(alloc, bytes) else {
+        return None;
+    };
+    let pos = root.pos();
+    let of_items = passes_items(Seal::<Entries>::new(bytes, pos), &items);
+    Some(of_entries && of_values && of_items)
+}
+
+#[test]
+fn cursors_pass_each_entry_once(rt: HostRuntime) {
+    let (mut three, mut nothing) = (THREE, NOTHING);
+    let entries = [(48, 56, 2), (16, 24, 1), (0, 8, 0)];
+    assert!(rt;
+        are_passed(rt.alloc(), &mut three, &entries) == Some(true)
+            && are_passed(rt.alloc(), &mut nothing, &[]) == Some(true)
+    );
+}
+
 /// The own bytes of a table of one item, as they are in the archive of one item.
 const ONE: [u8; 12] = [0xe0, 0xff, 0xff, 0xff, 1, 0, 0, 0, 2, 0, 0, 0];
 

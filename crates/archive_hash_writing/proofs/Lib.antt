@@ -20,6 +20,7 @@ pub mod Placed
 pub mod Planned
 pub mod Present
 pub mod Presented
+pub mod ReadableItems
 pub mod Ready
 pub mod Rooted
 pub mod Samples

@@ -12,6 +12,7 @@ use Rattle.archive_forms_laws.specs.State.{Keys}
 use Rattle.archive_forms_laws.specs.WrittenAt.{IsWrittenAt}
 use Rattle.archive_forms_laws.proofs.Pointers.{offset_stands}
 use Rattle.archive_forms_values.proofs.Targets.{first_word}
+use Rattle.archive_hash_maps.specs.Tables.{Buckets, IsTableAt}
 use Rattle.archive_hash_maps.specs.Tables.IsTableAt.{has_none, has_buckets}
 use Rattle.archive_hash_writing.specs.Fitted.{by_place, capacity_of, controls_of, table_of}
 use Rattle.archive_hash_writing.specs.Tables.{controls_at, hashed_spelling}
@@ -46,13 +47,17 @@ module _ {A R : Type 0} (fit : Fit) (s : Shape) (knows : Names → Type 0) (byte
       ap (λ n. window bytes Target (control_count n)) (sym (length-table most places hashes (x ∷ xs)))
       ∙ controls_read fit s knows w os Controls each t.state bytes are (filled_stands fit s knows w os Controls each t.state bytes t.piece_fits t.piece)
 
-  pub written_places : HasWrittenPlaces s knows bytes w most places hashes pos (x ∷ xs) t.state
-  written_places b (has_none z is) items =
+  -- a table that is read there is the written one
+  pub written_buckets : (b : Buckets) → IsTableAt bytes s pos b → (b.target ≡ Target) × (b.cap ≡ Cap) × (b.controls ≡ Controls)
+  written_buckets b (has_none z is) =
       let len : word_at bytes (pos + 4) ≡ length (x ∷ xs) = sym (word_within bytes pos 12 4 (omega arith)) ∙ read.len_is in
       absurd (omega (arith, z, len))
-  written_places b (has_buckets some leads cap_is fewer shown within room are full) items =
+  written_buckets b (has_buckets some leads cap_is fewer shown within room are full) =
       let cap : b.cap ≡ Cap = sym cap_is ∙ sym (word_within bytes pos 12 8 (omega arith)) ∙ read.cap_is in
       let leads_there = offset_stands bytes pos Target 12 (omega arith) t.own_fits.0 read.link_stands in
       let both : Some b.target ≡ Some Target = sym leads ∙ ap (target_from pos) (sym (first_word bytes pos 12 (omega arith))) ∙ leads_there in
       let target : b.target ≡ Target = cc in
-      (cap, shown ∙ ap (window bytes b.target) (ap control_count cap) ∙ ap (λ a. window bytes a (control_count Cap)) target ∙ controls_there)
+      (target, cap, shown ∙ ap (window bytes b.target) (ap control_count cap) ∙ ap (λ a. window bytes a (control_count Cap)) target ∙ controls_there)
+
+  pub written_places : HasWrittenPlaces s knows bytes w most places hashes pos (x ∷ xs) t.state
+  written_places b there items = let is = written_buckets b there in (is.1, is.2)

@@ -125,12 +125,9 @@ module _ {A R : Type 0} (k v : Shape) (knows others : Names → Type 0) (bytes :
       pub numbered : (i : ℕ) → i < length xs → word_at bytes (item_position number_shape map.buckets.target (get_or (places_of most places hashes xs) i 0)) ≡ i
       pub each : (i : ℕ) (d : A) → i < length xs → HasItem pair (both knows others) bytes w (entry_position k v map i) (get_or xs i d)
 
-    module _ (fit : Fit) (binds : fit.binds ≡ true) (x : A) (xs : List A) (even : length hashes ≡ suc (length xs)) (tags : All (λ h. h < 2 ^ 64) hashes) (kept_by : IsKeptBy most places pair w hashes fit (x ∷ xs))
-        (pos : ℕ) (st : State) (there : IsSettledMap fit pos (group (values w (x ∷ xs) st)))
-        (plain_is : erased (group (values w (x ∷ xs) st)) ≡ group (plain_values w (x ∷ xs))) where
-      kept : IsKeptSo most places pair w hashes fit x xs
-      kept = subst (λ b. IsAsked b (IsKeptSo most places pair w hashes fit x xs)) binds kept_by
-
+    -- of a map that the layout has at a position
+    module _ (x : A) (xs : List A) (even : length hashes ≡ suc (length xs)) (tags : All (λ h. h < 2 ^ 64) hashes) (pos : ℕ) (st : State)
+        (held : HeldAt (index_map k v) (both knows others) bytes pos (group (values w (x ∷ xs) st))) where
       abbrev all : List A
       all = x ∷ xs
 
@@ -146,68 +143,45 @@ module _ {A R : Type 0} (k v : Shape) (knows others : Names → Type 0) (bytes :
       abbrev Places : List ℕ
       Places = places_of most places hashes Numbers
 
-      abbrev held : HeldAt (index_map k v) (both knows others) bytes pos (group Items)
-      held = there.held
-
       long : length Numbers ≡ length all
       long = length-range_with_len 0 (length all)
 
       even_numbers : length hashes ≡ length Numbers
       even_numbers = even ∙ sym long
 
-      -- what a fit says of the table
-      record IsAsWritten (b : Buckets) (ns : Values) : Type 0 where
-        cap_is : b.cap ≡ Cap
-        controls_are : b.controls ≡ controls_of most places hashes Numbers
-        numbers_is : ns ≡ naturals (by_place most places hashes Numbers)
+      -- its table has the written places and controls, and the numbers of its entries by ascending place
+      pub record IsAsWritten (b : Buckets) : Type 0 where
+        pub cap_is : b.cap ≡ Cap
+        pub controls_are : b.controls ≡ controls_of most places hashes Numbers
+        pub state : State
+        pub items : AreItemsAt number_shape KnowsAll bytes (item_positions number_shape b) (values number_spelling (by_place most places hashes Numbers) state)
 
-      as_written : (m : IndexMap) → IsMapAt bytes k v pos m → count_of m ≡ length all → IsAsWritten m.buckets (members (read_so k v knows others bytes pos (group Items) held).numbers)
-      as_written m stands count = by_table stands.table
-        where
-          by_table : IsTableAt bytes number_shape pos m.buckets → IsAsWritten m.buckets (members (read_so k v knows others bytes pos (group Items) held).numbers)
-          by_table (has_none z is) = absurd (let none = ap (λ (b : Buckets). length (full_places b)) is in omega (arith, none, count))
-          by_table (has_buckets some target cap_is fewer shown within room are full) =
-              let b = m.buckets in
-              let len = word_at bytes (pos + 4) in
-              let n = length all in
-              let len_is : len ≡ n = sym full ∙ count in
-              let leads = stands.leads (λ e. absurd (omega (arith, e, count))) in
-              let content = filled_content held.names bytes k v pos len b.cap b.target m.start (word_within bytes pos 16 4 (omega arith)) (word_within bytes pos 16 8 (omega arith) ∙ cap_is) (omega (arith, len_is)) fewer
-              (ap (target_from pos) (first_word bytes pos 16 (omega arith)) ∙ target) (ap (target_from (pos + 12)) (word_within bytes pos 16 12 (omega arith)) ∙ leads) in
-              let parts : List Part = buckets b.target len b.cap (place len) ∷ (behind m.start (slice pair) len ∷ []) in
-              let found = there.settled second parts content in
-              let read = read_so k v knows others bytes pos (group Items) held in
-              let first = read.first parts found.vs found.regions found.after content found.all in
-              let last : first.0 ≡ group Items = made_two read.numbers (group Items) first.0 (subst (λ vs. made second vs ≡ Some (group Items)) first.1 found.is_made) in
-              let are_two : found.vs ≡ more_values read.numbers (more_values (group Items) no_values) = first.1 ∙ ap (λ u. more_values read.numbers (more_values u no_values)) last in
-              let chosen : IsFilledAs (choices fit) bytes b.target len b.cap (more_values read.numbers (more_values (group Items) no_values)) =
-              settled_chosen fit binds bytes (at pos (index_map k v)) parts (more_values read.numbers (more_values (group Items) no_values)) (subst (IsSettled fit bytes (at pos (index_map k v)) parts) are_two found.settled) in
-              let caps : capacity_of most places hashes all ≡ Cap = ap (λ m. capacity_for m most places) (sym long) in
-              record {
-                cap_is = chosen.1 ∙ ap fit.capacity len_is ∙ kept.0 ∙ caps;
-                controls_are = shown ∙ chosen.2 ∙ ap (λ (u : Value). fit.map_controls (keys_alone (members u))) plain_is ∙ kept.1;
-                numbers_is = ap members chosen.3 ∙ ap (λ (u : Value). naturals (fit.map_numbers (keys_alone (members u)))) plain_is ∙ ap naturals kept.2;
-              }
+      number_at_place : (target : ℕ) → ((p n : ℕ) → 0 ≤ p → p < 0 + Cap → item_at Numbers Places p ≡ Some n → HasItem number_shape KnowsAll bytes number_spelling (item_position number_shape target p) n)
+          → (i : ℕ) → i < length all → word_at bytes (item_position number_shape target (get_or Places i 0)) ≡ i
+      number_at_place target lies i l =
+          let some : 0 < length Numbers = omega (arith, long) in
+          let count = length-places most places hashes Numbers even_numbers some in
+          let low = places_below most places hashes Numbers even_numbers some i (omega (arith, count, long, l)) in
+          let own = item_own Numbers Places i 0 count (are_apart most places hashes Numbers even_numbers some) (omega (arith, l, long)) in
+          let at_place = lies (get_or Places i 0) (get_or Numbers i 0) (omega arith) (omega (arith, low)) own in
+          let number = number_held at_place.1.names bytes (item_position number_shape target (get_or Places i 0)) at_place.1.holds in
+          let same_number : natural (get_or Numbers i 0) ≡ natural (word_at bytes (item_position number_shape target (get_or Places i 0))) = number.is in
+          let is : get_or Numbers i 0 ≡ word_at bytes (item_position number_shape target (get_or Places i 0)) = cc in
+          sym is ∙ get_or-range_with_len 0 (length all) i 0 l ∙ omega arith
 
-      pub filled_map : IsFilledMap pos all
-      filled_map =
+      pub filled_of : ((m : IndexMap) → IsMapAt bytes k v pos m → count_of m ≡ length all → IsAsWritten m.buckets) → IsFilledMap pos all
+      filled_of as_written =
           let r = map_is_read k v knows others bytes pos (group Items) held in
           let b = r.map.buckets in
           let elements : r.entries.elements ≡ Items = same_group r.entries.elements Items (sym r.entries.is) in
           let count : count_of r.map ≡ length all = sym r.entries.count ∙ ap count_values elements ∙ how_many w all st in
           let is = as_written r.map r.stands count in
-          let so = read_so k v knows others bytes pos (group Items) held in
-          let table = table_is_read number_shape KnowsAll bytes pos so.numbers so.table_held in
-          let items : AreItemsAt number_shape KnowsAll bytes (item_positions number_shape b) (members so.numbers) =
-          subst (λ (c : Buckets). AreItemsAt number_shape KnowsAll bytes (item_positions number_shape c) (members so.numbers)) (one_table bytes number_shape pos table.buckets b table.table r.stands.table) table.items in
-          let held_numbers : AreItemsAt number_shape KnowsAll bytes (item_positions number_shape b) (values number_spelling (by_place most places hashes Numbers) initial) =
-          subst (AreItemsAt number_shape KnowsAll bytes (item_positions number_shape b)) (is.numbers_is ∙ sym (numbers_are (by_place most places hashes Numbers) initial)) items in
           let tagged : (p : ℕ) → 0 ≤ p → p < 0 + Cap → IsTagOf (item_at Numbers Places p) (slice_index b.controls p) = λ p from below.
           let control : slice_index b.controls p ≡ control_at hashes Places p = ap (λ cs. get_or cs p 0) is.controls_are ∙ written_low Cap hashes Places p (omega (arith, below)) in
           subst (IsTagOf (item_at Numbers Places p)) (sym control) (item_tagged hashes Numbers Places p even_numbers tags) in
           let places_full : ℕ → List ℕ = λ n. filter (λ p. nat_lt (slice_index b.controls p) 128) (range_with_len 0 n) in
-          let lie = items_lie number_shape KnowsAll bytes number_spelling b.target b.controls (item_at Numbers Places) Cap 0 initial tagged
-          (subst (λ n. AreItemsAt number_shape KnowsAll bytes (map (item_position number_shape b.target) (places_full n)) (values number_spelling (by_place most places hashes Numbers) initial)) is.cap_is held_numbers) in
+          let lie = items_lie number_shape KnowsAll bytes number_spelling b.target b.controls (item_at Numbers Places) Cap 0 is.state tagged
+          (subst (λ n. AreItemsAt number_shape KnowsAll bytes (map (item_position number_shape b.target) (places_full n)) (values number_spelling (by_place most places hashes Numbers) is.state)) is.cap_is is.items) in
           let of_all : (n : ℕ) → n ≡ length all → (i : ℕ) → i < length all → word_at bytes (item_position number_shape b.target (get_or (fitted_from (capacity_for n most places) [] hashes) i 0)) ≡ i = λ n e i l.
           subst (λ m. word_at bytes (item_position number_shape b.target (get_or (fitted_from (capacity_for m most places) [] hashes) i 0)) ≡ i) (long ∙ sym e) (number_at_place b.target lie.0 i l) in
           record {
@@ -224,16 +198,65 @@ module _ {A R : Type 0} (k v : Shape) (knows others : Names → Type 0) (bytes :
                 let same_value : one.0 ≡ w.value (get_or all i d) value.0 = cc in
                 (value.0, subst (HeldAt pair (both knows others) bytes (entry_position k v r.map i)) same_value one.2);
           }
+
+    -- where a fit fills it
+    module _ (fit : Fit) (binds : fit.binds ≡ true) (x : A) (xs : List A) (even : length hashes ≡ suc (length xs)) (tags : All (λ h. h < 2 ^ 64) hashes) (kept_by : IsKeptBy most places pair w hashes fit (x ∷ xs))
+        (pos : ℕ) (st : State) (there : IsSettledMap fit pos (group (values w (x ∷ xs) st)))
+        (plain_is : erased (group (values w (x ∷ xs) st)) ≡ group (plain_values w (x ∷ xs))) where
+      kept : IsKeptSo most places pair w hashes fit x xs
+      kept = subst (λ b. IsAsked b (IsKeptSo most places pair w hashes fit x xs)) binds kept_by
+
+      abbrev Written : Value
+      Written = group (values w (x ∷ xs) st)
+
+      -- what a fit says of the table
+      record IsTold (b : Buckets) (ns : Values) : Type 0 where
+        cap_is : b.cap ≡ capacity_of most places hashes (numbers (x ∷ xs))
+        controls_are : b.controls ≡ controls_of most places hashes (numbers (x ∷ xs))
+        numbers_is : ns ≡ naturals (by_place most places hashes (numbers (x ∷ xs)))
+
+      told : (m : IndexMap) → IsMapAt bytes k v pos m → count_of m ≡ length (x ∷ xs) → IsTold m.buckets (members (read_so k v knows others bytes pos Written there.held).numbers)
+      told m stands count = by_table stands.table
         where
-          number_at_place : (target : ℕ) → ((p n : ℕ) → 0 ≤ p → p < 0 + Cap → item_at Numbers Places p ≡ Some n → HasItem number_shape KnowsAll bytes number_spelling (item_position number_shape target p) n)
-              → (i : ℕ) → i < length all → word_at bytes (item_position number_shape target (get_or Places i 0)) ≡ i
-          number_at_place target lies i l =
-              let some : 0 < length Numbers = omega (arith, long) in
-              let count = length-places most places hashes Numbers even_numbers some in
-              let low = places_below most places hashes Numbers even_numbers some i (omega (arith, count, long, l)) in
-              let own = item_own Numbers Places i 0 count (are_apart most places hashes Numbers even_numbers some) (omega (arith, l, long)) in
-              let at_place = lies (get_or Places i 0) (get_or Numbers i 0) (omega arith) (omega (arith, low)) own in
-              let number = number_held at_place.1.names bytes (item_position number_shape target (get_or Places i 0)) at_place.1.holds in
-              let same_number : natural (get_or Numbers i 0) ≡ natural (word_at bytes (item_position number_shape target (get_or Places i 0))) = number.is in
-              let is : get_or Numbers i 0 ≡ word_at bytes (item_position number_shape target (get_or Places i 0)) = cc in
-              sym is ∙ get_or-range_with_len 0 (length all) i 0 l ∙ omega arith
+          by_table : IsTableAt bytes number_shape pos m.buckets → IsTold m.buckets (members (read_so k v knows others bytes pos Written there.held).numbers)
+          by_table (has_none z is) = absurd (let none = ap (λ (b : Buckets). length (full_places b)) is in omega (arith, none, count))
+          by_table (has_buckets some target cap_is fewer shown within room are full) =
+              let held = there.held in
+              let b = m.buckets in
+              let len = word_at bytes (pos + 4) in
+              let n = length (x ∷ xs) in
+              let len_is : len ≡ n = sym full ∙ count in
+              let leads = stands.leads (λ e. absurd (omega (arith, e, count))) in
+              let content = filled_content held.names bytes k v pos len b.cap b.target m.start (word_within bytes pos 16 4 (omega arith)) (word_within bytes pos 16 8 (omega arith) ∙ cap_is) (omega (arith, len_is)) fewer
+              (ap (target_from pos) (first_word bytes pos 16 (omega arith)) ∙ target) (ap (target_from (pos + 12)) (word_within bytes pos 16 12 (omega arith)) ∙ leads) in
+              let parts : List Part = buckets b.target len b.cap (place len) ∷ (behind m.start (slice pair) len ∷ []) in
+              let found = there.settled second parts content in
+              let read = read_so k v knows others bytes pos Written held in
+              let first = read.first parts found.vs found.regions found.after content found.all in
+              let last : first.0 ≡ Written = made_two read.numbers Written first.0 (subst (λ vs. made second vs ≡ Some Written) first.1 found.is_made) in
+              let are_two : found.vs ≡ more_values read.numbers (more_values Written no_values) = first.1 ∙ ap (λ u. more_values read.numbers (more_values u no_values)) last in
+              let chosen : IsFilledAs (choices fit) bytes b.target len b.cap (more_values read.numbers (more_values Written no_values)) =
+              settled_chosen fit binds bytes (at pos (index_map k v)) parts (more_values read.numbers (more_values Written no_values)) (subst (IsSettled fit bytes (at pos (index_map k v)) parts) are_two found.settled) in
+              let caps : capacity_of most places hashes (x ∷ xs) ≡ capacity_of most places hashes (numbers (x ∷ xs)) = ap (λ m. capacity_for m most places) (sym (length-range_with_len 0 n)) in
+              record {
+                cap_is = chosen.1 ∙ ap fit.capacity len_is ∙ kept.0 ∙ caps;
+                controls_are = shown ∙ chosen.2 ∙ ap (λ (u : Value). fit.map_controls (keys_alone (members u))) plain_is ∙ kept.1;
+                numbers_is = ap members chosen.3 ∙ ap (λ (u : Value). naturals (fit.map_numbers (keys_alone (members u)))) plain_is ∙ ap naturals kept.2;
+              }
+
+      as_told : (m : IndexMap) → IsMapAt bytes k v pos m → count_of m ≡ length (x ∷ xs) → IsAsWritten x xs even tags pos st there.held m.buckets
+      as_told m stands count =
+          let t = told m stands count in
+          let so = read_so k v knows others bytes pos Written there.held in
+          let table = table_is_read number_shape KnowsAll bytes pos so.numbers so.table_held in
+          let items : AreItemsAt number_shape KnowsAll bytes (item_positions number_shape m.buckets) (members so.numbers) =
+          subst (λ (c : Buckets). AreItemsAt number_shape KnowsAll bytes (item_positions number_shape c) (members so.numbers)) (one_table bytes number_shape pos table.buckets m.buckets table.table stands.table) table.items in
+          record {
+            cap_is = t.cap_is;
+            controls_are = t.controls_are;
+            state = initial;
+            items = subst (AreItemsAt number_shape KnowsAll bytes (item_positions number_shape m.buckets)) (t.numbers_is ∙ sym (numbers_are (by_place most places hashes (numbers (x ∷ xs))) initial)) items;
+          }
+
+      pub filled_map : IsFilledMap pos (x ∷ xs)
+      filled_map = filled_of x xs even tags pos st there.held as_told

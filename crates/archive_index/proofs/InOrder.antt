@@ -14,12 +14,11 @@ use Rattle.archive_shape_layout.specs.Value.Values.{no_values}
 use Rattle.archive_shape_layout.specs.Value.{count_values}
 use Rattle.archive_shape_layout.specs.Content.{Names}
 use Rattle.archive_shape_layout.specs.Holds.{root_position}
-use Rattle.archive_shape_canonical.specs.Settled.{Fit}
-use Rattle.archive_shape_canonical.specs.Sharing.{erased}
 use Rattle.archive_shape.specs.Key.{HeldAt}
+use Rattle.archive_forms_values.specs.Parts.{both}
 use Rattle.archive_forms_values.specs.Tuples.{tuple2}
 use Rattle.archive_forms_laws.specs.Sample.{number_shape}
-use Rattle.archive_forms_laws.specs.State.{State, Keys}
+use Rattle.archive_forms_laws.specs.State.{State}
 use Rattle.archive_forms_laws.specs.Spelling.{Spelling}
 use Rattle.archive_forms_laws.specs.Fields.{tuple2_spelling}
 use Rattle.archive_hash_probing.specs.Inputs.{input_hash}
@@ -34,9 +33,9 @@ use Rattle.archive_hash_writing.proofs.SpellingFitting.{above}
 use Rattle.archive_hash.specs.Answering.{HasEntry, first_with}
 use Rattle.archive_hash.proofs.Answering.{entry_held, hashes_small, place_found}
 use Rattle.archive_index.specs.Maps.{count_of, entry_position, adjacent}
-use Rattle.archive_index.specs.Answering.{IsWrittenMap, FindsNumber, AnswersInOrder, first_number, index_spelled}
+use Rattle.archive_index.specs.Answering.{IsWrittenMap, FindsNumber, AnswersInOrder, first_number}
 use Rattle.archive_index.proofs.Read.{map_is_read}
-use Rattle.archive_index.proofs.Filled.{IsFilledMap, IsSettledMap, filled_map, root_map}
+use Rattle.archive_index.proofs.Filled.{IsFilledMap, filled_map, root_map}
 
 -- what holds of each element by its number holds of positions side by side
 zip_side : {X : Type 0} (P : ℕ → X → Type 0) (size at : ℕ) (xs : List X) → ((i : ℕ) (d : X) → i < length xs → P (at + i * size) (get_or xs i d)) → AllZip P (adjacent size at (length xs)) xs
@@ -62,17 +61,12 @@ no_places : (bytes : List ℕ) (pos : ℕ) (b : Buckets) → IsTableAt bytes num
 no_places bytes pos b (has_none z is) none = is
 no_places bytes pos b (has_buckets some target cap_is fewer shown within room are full) none = absurd (some (sym full ∙ none))
 
--- the layout has the map of entries at a position, as a fit that binds fills it
-pub record IsFittedMap {A B R P : Type 0} (k v : Shape) (knows others : Names → Type 0) (keys : Spelling A R) (vals : Spelling B P) (bytes : List ℕ) (fed : A → List (List ℕ)) (es : List (A × B)) (pos : ℕ) : Type 0 where
-  pub most : ℕ
-  pub places : ℕ
-  pub fit : Fit
-  pub binds : fit.binds ≡ true
-  pub given : Keys
-  pub state : State
-  pub suits : (index_spelled k v knows others keys vals bytes most places fed).suits fit given es
-  pub plain : erased ((index_spelled k v knows others keys vals bytes most places fed).value es state) ≡ (index_spelled k v knows others keys vals bytes most places fed).plain es
-  pub there : IsSettledMap k v knows others bytes (tuple2_spelling k keys v vals) fit pos ((index_spelled k v knows others keys vals bytes most places fed).value es state)
+-- the layout has the map of entries at a position: where there are any, with each number at its place
+abbrev pub HasMapOf : {A B R P : Type 0} (k v : Shape) (knows others : Names → Type 0) (keys : Spelling A R) (vals : Spelling B P) (bytes : List ℕ) (fed : A → List (List ℕ)) (pos : ℕ) → List (A × B) → Type 0
+HasMapOf k v knows others keys vals bytes fed pos [] = HeldAt (index_map k v) (both knows others) bytes pos (group no_values)
+HasMapOf k v knows others keys vals bytes fed pos (e ∷ es) =
+    (most : ℕ) × (places : ℕ)
+    × IsFilledMap k v knows others bytes (tuple2_spelling k keys v vals) most places (map (λ x. input_hash (fed x.0)) (e ∷ es)) pos (e ∷ es)
 
 module _ {A B R P : Type 0} (k v : Shape) (knows others : Names → Type 0) (keys : Spelling A R) (vals : Spelling B P) (bytes : List ℕ)
     {Q : Type 0} (key : A → Q) (order : Q → Q → Ordering) (key_of : List ℕ → ℕ → Q → Type 0)
@@ -144,9 +138,9 @@ module _ {A B R P : Type 0} (k v : Shape) (knows others : Names → Type 0) (key
       finds = λ query hash n found h looks. looked_up query hash n found h looks;
     }
 
-  pub fitted_answers : (es : List (A × B)) (pos : ℕ) → IsFittedMap k v knows others keys vals bytes fed es pos → AnswersInOrder k v knows others keys vals bytes key order hashes key_of pos es
-  fitted_answers [] pos m =
-      let r = map_is_read k v knows others bytes pos (group no_values) m.there.held in
+  pub map_of_answers : (es : List (A × B)) (pos : ℕ) → HasMapOf k v knows others keys vals bytes fed pos es → AnswersInOrder k v knows others keys vals bytes key order hashes key_of pos es
+  map_of_answers [] pos held =
+      let r = map_is_read k v knows others bytes pos (group no_values) held in
       let none : count_of r.map ≡ 0 = sym r.entries.count ∙ ap count_values (no_elements r.entries.elements r.entries.is) in
       let empty : r.map.buckets ≡ no_buckets = no_places bytes pos r.map.buckets r.stands.table none in
       record {
@@ -160,24 +154,19 @@ module _ {A B R P : Type 0} (k v : Shape) (knows others : Names → Type 0) (key
     where
       no_elements : (vs : Rattle.archive_shape_layout.specs.Value.Values) → (λ (x : Rattle.archive_shape_layout.specs.Value.Value). x) (group no_values) ≡ group vs → vs ≡ no_values
       no_elements vs e = cc
-  fitted_answers (e ∷ es) pos m =
-      map_answers_so m.most m.places e (e ∷ es) (omega arith) pos
-      (filled_map k v knows others bytes (tuple2_spelling k keys v vals) m.most m.places (map hash_of (e ∷ es)) m.fit m.binds e es (length-map (e ∷ es) hash_of)
-      (hashes_small k v knows others keys vals bytes key order key_of represents one_key fed query_fed fed_as_key alike hashes one (e ∷ es)) m.suits.1
-      pos _ m.there m.plain)
+  map_of_answers (e ∷ es) pos filled = map_answers_so filled.0 filled.1 e (e ∷ es) (omega arith) pos filled.2
 
   pub map_answers : (es : List (A × B)) → IsWrittenMap k v knows others keys vals bytes fed es
       → AnswersInOrder k v knows others keys vals bytes key order hashes key_of (root_position (length bytes) (index_map k v)) es
-  map_answers es m =
-      let pos = root_position (length bytes) (index_map k v) in
-      fitted_answers es pos (record {
-        most = m.most;
-        places = m.places;
-        fit = m.fit;
-        binds = m.binds;
-        given = m.given;
-        state = m.state;
-        suits = m.suits;
-        plain = m.plain;
-        there = root_map k v knows others bytes (tuple2_spelling k keys v vals) m.fit m.names m.start pos _ m.regions m.visits m.known m.archive;
-      })
+  map_answers es m = map_of_answers es (root_position (length bytes) (index_map k v)) (fitted es m)
+    where
+      fitted : (xs : List (A × B)) → IsWrittenMap k v knows others keys vals bytes fed xs → HasMapOf k v knows others keys vals bytes fed (root_position (length bytes) (index_map k v)) xs
+      fitted [] w = (root_map k v knows others bytes (tuple2_spelling k keys v vals) w.fit w.names w.start (root_position (length bytes) (index_map k v)) _ w.regions w.visits w.known w.archive).held
+      fitted (x ∷ xs) w = (
+        w.most,
+        w.places,
+        filled_map k v knows others bytes (tuple2_spelling k keys v vals) w.most w.places (map hash_of (x ∷ xs)) w.fit w.binds x xs (length-map (x ∷ xs) hash_of)
+            (hashes_small k v knows others keys vals bytes key order key_of represents one_key fed query_fed fed_as_key alike hashes one (x ∷ xs)) w.suits.1
+            (root_position (length bytes) (index_map k v)) _
+            (root_map k v knows others bytes (tuple2_spelling k keys v vals) w.fit w.names w.start (root_position (length bytes) (index_map k v)) _ w.regions w.visits w.known w.archive) w.plain,
+      )

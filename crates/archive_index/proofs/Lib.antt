@@ -4,10 +4,12 @@ pub mod Filled
 pub mod InOrder
 pub mod IndexChecks
 pub mod LookedUp
+pub mod Numbered
 pub mod Pairs
 pub mod Places
 pub mod Range
 pub mod Read
+pub mod Readable
 pub mod ReadBack
 pub mod Resolved
 pub mod Standing

@@ -8,6 +8,20 @@ use Rattle.archive_shape_layout.specs.Content.Part.{at}
 use Rattle.archive_shape_layout.specs.Holds.{Region, Visit, OpenShared, Holds}
 use Rattle.archive_shape_layout.specs.Visited.{ClaimedAfter}
 
+-- the members that an archived key has by its bounds, as a record
+abbrev pub KeyMembers : Type 0 → Type 1
+KeyMembers Q = record {
+  SIZE : ℕ;
+  ALIGN : ℕ;
+  shape : Shape;
+  knows : Names → Type 0;
+  named : Names;
+  is_key : List ℕ → ℕ → Type 0;
+  key_of : List ℕ → ℕ → Q → Type 0;
+  stands_for : Value → Q → Type 0;
+  order : Q → Q → Ordering;
+}
+
 -- under names that a type knows, the layout has this value at a position: its own bytes lie in the buffer, the regions
 -- that it claims ascend before them, and what was visited has its value and lies before these regions
 pub record HeldAt (shape : Shape) (knows : Names → Type 0) (bytes : List ℕ) (pos : ℕ) (value : Value) : Type 0 where

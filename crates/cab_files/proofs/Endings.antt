@@ -11,11 +11,12 @@ use Rattle.cabinet.specs.Editing.{EditedByLines}
 use Rattle.cabinet.specs.Failures.{WriterFails}
 use Rattle.cabinet.proofs.SessionLaws.{unedited_bytes_stay}
 use Rattle.cabinet.specs.declared.fault.Fault.{Fault}
+use Rattle.cabinet.specs.declared.fault.Fault.TheVariants.{Usage, CannotRead, CannotWrite, Text, Save, Open, Run}
 use Rattle.cabinet.specs.declared.session.Count.{Count}
 use Rattle.cabinet.specs.declared.session.RunCause.{RunCause}
 use Rattle.cabinet.specs.declared.session.RunCause.TheVariants.{Read, Write, OutOfMemory, LineTooLong, InputTooLong}
 use Rattle.cabinet.specs.declared.session.RunFault.{RunFault}
-use Rattle.cab_files.specs.Ending.{IsFlushed, IsFirstFault, IsArchive, EditsArchive}
+use Rattle.cab_files.specs.Ending.{IsFlushed, IsFirstFault, IsArchive, EditsArchive, EndsRun}
 
 -- flushing keeps the counts of a run
 pub flushed_edits : (old new : List ℕ) (r ending : Result Count RunFault) (written : Bool) → EditedByRun old new r → IsFlushed r written ending → EditedByRun old new ending
@@ -63,3 +64,14 @@ ends_by old new path (Ok n) edits false ending a e c k f =
     let some = some_edit edits n.edits false c refl k in
     subst (EditsArchive old new path) (sym f) (refl, a, (record { lines = n.lines; edits = n.edits; edited = e }, some))
 ends_by old new path (Err fault) edits kept ending a e c k f = subst (EditsArchive old new path) (sym f) (a, e)
+
+-- what working in the bytes of a file results in is how running it ends
+pub ends_run : (old new : List ℕ) (path : String Global) (ending : Result (Unit {0}) Fault) → EditsArchive old new path ending → EndsRun path ending
+ends_run old new path (Ok done) h = (old, new, h)
+ends_run old new path (Err Usage) h = absurd h
+ends_run old new path (Err (CannotRead other)) h = absurd h
+ends_run old new path (Err (Text refusal)) h = absurd h
+ends_run old new path (Err (Save refusal)) h = absurd h
+ends_run old new path (Err (Open refusal)) h = (old, new, h)
+ends_run old new path (Err (Run fault)) h = (old, new, h)
+ends_run old new path (Err (CannotWrite other)) h = (old, new, h)

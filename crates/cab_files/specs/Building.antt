@@ -1,5 +1,5 @@
 -- The results of building an archive.
-use Rattle.std.specs.Prelude.{◌≡◌, ℕ, ◌<◌, ◌⊎◌, List, String, string_bytes, string_len, codes}
+use Rattle.std.specs.Prelude.{◌≡◌, ℕ, ◌<◌, ◌⊎◌, List, Result, Ok, Err, String, string_bytes, string_len, codes}
 use Rattle.std.specs.declared.alloc.Global.{Global}
 use Rattle.cabinet_text_grammar.specs.Tree.{Tree}
 use Rattle.cabinet_text_grammar.specs.Spelling.{text_of}
@@ -21,12 +21,14 @@ RefusesText text (Text refusal) = FirstFault text refusal.line refusal.cause
 RefusesText text (Save refusal) = (t : Tree) × (text ≡ text_of t) × HasNoImageFor t refusal
 RefusesText text _ = ⊥
 
--- the faults with which building an archive file ends; what is printed goes to no file with a name
-abbrev pub EndsBuildBy : (text archive : String Global) → Fault → Type 0
-EndsBuildBy text archive (CannotRead path) = path ≡ text
-EndsBuildBy text archive (Text refusal) = (bytes : List ℕ) × FirstFault bytes refusal.line refusal.cause
-EndsBuildBy text archive (Save refusal) = (t : Tree) × HasNoImageFor t refusal
-EndsBuildBy text archive (CannotWrite path) = (path ≡ archive) ⊎ (0 < string_len text → string_bytes path ≡ codes "-")
-EndsBuildBy text archive Usage = ⊥
-EndsBuildBy text archive (Open refusal) = ⊥
-EndsBuildBy text archive (Run fault) = ⊥
+-- how building an archive file ends: bytes are an image of a text, or a fault says why there is none; which bytes, no contract
+-- can name; what is printed goes to no file with a name
+abbrev pub EndsBuild : (text archive : String Global) → Result (Unit {0}) Fault → Type 0
+EndsBuild text archive (Ok done) = (bytes : List ℕ) × (image : List ℕ) × Builds bytes image
+EndsBuild text archive (Err (CannotRead path)) = path ≡ text
+EndsBuild text archive (Err (Text refusal)) = (bytes : List ℕ) × FirstFault bytes refusal.line refusal.cause
+EndsBuild text archive (Err (Save refusal)) = (t : Tree) × HasNoImageFor t refusal
+EndsBuild text archive (Err (CannotWrite path)) = (path ≡ archive) ⊎ (0 < string_len text → string_bytes path ≡ codes "-")
+EndsBuild text archive (Err Usage) = ⊥
+EndsBuild text archive (Err (Open refusal)) = ⊥
+EndsBuild text archive (Err (Run fault)) = ⊥

@@ -1,11 +1,12 @@
 -- How carrying out a command ends.
-use Rattle.cab_files.specs.Building.{EndsBuildBy}
-use Rattle.cab_files.specs.Ending.{EndsRunBy}
+use Rattle.std.specs.Prelude.{Result}
+use Rattle.cab_files.specs.Building.{EndsBuild}
+use Rattle.cab_files.specs.Ending.{EndsRun}
 use Rattle.cab_files.specs.declared.command.Command.{Command}
 use Rattle.cab_files.specs.declared.command.Command.TheVariants.{Build, Run}
 use Rattle.cabinet.specs.declared.fault.Fault.{Fault}
 
--- the faults with which a command ends, by its paths
-abbrev pub EndsBy : Command → Fault → Type 0
-EndsBy (Build text archive) = EndsBuildBy text archive
-EndsBy (Run archive) = EndsRunBy archive
+-- by what it is, and its paths
+abbrev pub Ends : Command → Result (Unit {0}) Fault → Type 0
+Ends (Build text archive) result = EndsBuild text archive result
+Ends (Run archive) result = EndsRun archive result

@@ -46,12 +46,7 @@ EditsArchive old new path (Err (CannotRead other)) = ⊥
 EditsArchive old new path (Err (Text refusal)) = ⊥
 EditsArchive old new path (Err (Save refusal)) = ⊥
 
--- the faults with which running an archive file ends
-abbrev pub EndsRunBy : String Global → Fault → Type 0
-EndsRunBy path (CannotRead other) = other ≡ path
-EndsRunBy path (Open refusal) = (bytes : List ℕ) × IsRefusedFor bytes (refusal_of refusal)
-EndsRunBy path (Run fault) = (old : List ℕ) × (new : List ℕ) × IsArchive old × EditedByLines old new fault.lines fault.edits
-EndsRunBy path (CannotWrite other) = other ≡ path
-EndsRunBy path Usage = ⊥
-EndsRunBy path (Text refusal) = ⊥
-EndsRunBy path (Save refusal) = ⊥
+-- how running an archive file ends: of bytes that no contract can name, as working in them ends, or the file was not read
+abbrev pub EndsRun : String Global → Result (Unit {0}) Fault → Type 0
+EndsRun path (Err (CannotRead other)) = other ≡ path
+EndsRun path result = (old : List ℕ) × (new : List ℕ) × EditsArchive old new path result

@@ -1,5 +1,5 @@
 -- How showing an archive ends, and the lines that report why.
-use Rattle.std.specs.Prelude.{◌≡◌, ℕ, ◌<◌, Bool, true, false, List, length, Option, Result, MatchResult, String, string_bytes, string_len, codes}
+use Rattle.std.specs.Prelude.{◌≡◌, ℕ, ◌+◌, ◌<◌, Bool, true, false, List, length, Option, Result, Ok, Err, MatchResult, String, string_bytes, string_len, codes}
 use Rattle.std.specs.declared.alloc.Global.{Global}
 use Rattle.archive_shape_layout.specs.Writing.{WriterMembers, Writes}
 use Rattle.archive_shape_layout.specs.declared.error.Error.{Error}
@@ -13,17 +13,32 @@ use Rattle.cabinet_documents.specs.Audit.{IsRefusedFor}
 use Rattle.cabinet_text_grammar.specs.Tree.{Tree}
 use Rattle.cabinet.specs.Calls.{WritesDocument}
 use Rattle.cabinet.specs.Reporting.{spelled_fault}
+use Rattle.cab_files.specs.Ending.{IsArchive}
 use Rattle.cab_files.specs.declared.showing.archive.View.{View}
 use Rattle.cab_files.specs.declared.showing.archive.View.TheVariants as view
 use Rattle.cabinet.specs.declared.fault.Fault.{Fault}
 use Rattle.cabinet.specs.declared.fault.Fault.TheVariants.{Usage, CannotRead, CannotWrite, Open}
 
--- the faults with which showing an archive file ends; the text goes to no file with a name
-abbrev pub EndsShowBy : String Global → Fault → Type 0
-EndsShowBy path (CannotRead other) = other ≡ path
-EndsShowBy path (Open refusal) = (bytes : List ℕ) × IsRefusedFor bytes (refusal_of refusal)
-EndsShowBy path (CannotWrite other) = 0 < string_len path → string_bytes other ≡ codes "-"
-EndsShowBy path _ = ⊥
+-- the output in a fault, which has no name
+abbrev pub IsOutput : (path other : String Global) → Type 0
+IsOutput path other = 0 < string_len path → string_bytes other ≡ codes "-"
+
+-- how showing an archive file ends: bytes are an archive, or a fault names the file, its bytes or the output; which bytes, no
+-- contract can name
+abbrev pub EndsShow : String Global → Result (Unit {0}) Fault → Type 0
+EndsShow path (Ok done) = (bytes : List ℕ) × IsArchive bytes
+EndsShow path (Err (CannotRead other)) = other ≡ path
+EndsShow path (Err (Open refusal)) = (bytes : List ℕ) × IsRefusedFor bytes (refusal_of refusal)
+EndsShow path (Err (CannotWrite other)) = IsOutput path other
+EndsShow path (Err fault) = ⊥
+
+-- how printing a view of bytes ends, by the numbers of writes that had failed before and after: the bytes are an archive
+-- and no write failed, or the bytes are refused and none failed, or one failed
+abbrev pub EndsPrinting : (bytes : List ℕ) → String Global → (early late : ℕ) → Result (Unit {0}) Fault → Type 0
+EndsPrinting bytes path early late (Ok done) = IsArchive bytes × (late ≡ early)
+EndsPrinting bytes path early late (Err (Open refusal)) = IsRefusedFor bytes (refusal_of refusal) × (late ≡ early)
+EndsPrinting bytes path early late (Err (CannotWrite other)) = IsOutput path other × (late ≡ early + 1)
+EndsPrinting bytes path early late (Err fault) = ⊥
 
 -- the map of the regions of an archive is written, and nothing where the bytes are refused
 abbrev pub WritesMap : {W A : Type 0} → WriterMembers W → (bytes : List ℕ) (lines characters : Option ℕ) (early late : W)

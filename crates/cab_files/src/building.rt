@@ -1,6 +1,6 @@
 //! `cab build`, which writes the archive of the document that a text file holds.
 ghost use Rattle.std.specs.Prelude.{IfOk, IfErr};
-ghost use Rattle.cab_files.specs.Building.{Builds, RefusesText, EndsBuildBy};
+ghost use Rattle.cab_files.specs.Building.{Builds, RefusesText, EndsBuild};
 
 use crate::ending::standard_output;
 use crate::replacing;
@@ -31,7 +31,7 @@ pub fn build<R: Files<File = File> + Print + AllocGlobal>(
     text: String,
     archive: String,
 ) -> Result<(), Fault>
-    ensures { IfErr result (EndsBuildBy text archive) }
+    ensures { EndsBuild text archive result }
 {
     let Ok(bytes) = fs::read(rt, text.as_str()) else {
         return Err(Fault::CannotRead(text));

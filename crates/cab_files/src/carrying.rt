@@ -1,6 +1,5 @@
 //! Carrying out a command of `cab`.
-ghost use Rattle.std.specs.Prelude.{IfErr};
-ghost use Rattle.cab_files.specs.Carrying.{EndsBy};
+ghost use Rattle.cab_files.specs.Carrying.{Ends};
 
 use crate::building::build;
 use crate::command::Command;
@@ -17,7 +16,7 @@ pub fn carry_out<R: Files<File = File> + Input + Print + AllocGlobal>(
 ) -> Result<(), Fault>
 where
     R::Reader: IsTerminal,
-    ensures { IfErr result (EndsBy command) }
+    ensures { Ends command result }
 {
     match command {
         Command::Build { text, archive } => build(rt, text, archive),

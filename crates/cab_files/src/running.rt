@@ -1,9 +1,9 @@
 //! `cab run`, which carries out the lines of the standard input in an archive file.
-ghost use Rattle.std.specs.Prelude.{◌≡◌, ◌-◌, ◌^◌, ◌<◌, true, IfErr, MatchResult};
+ghost use Rattle.std.specs.Prelude.{◌≡◌, ◌-◌, ◌^◌, ◌<◌, true, MatchResult};
 ghost use Rattle.cabinet_text_grammar.specs.Tree.{Tree};
 ghost use Rattle.cabinet_documents.specs.Accepted.{Accepted};
 ghost use Rattle.cabinet.specs.Editing.{EditedByLines};
-ghost use Rattle.cab_files.specs.Ending.{IsFlushed, IsFirstFault, EditsArchive, EndsRunBy};
+ghost use Rattle.cab_files.specs.Ending.{IsFlushed, IsFirstFault, EditsArchive, EndsRun};
 
 use crate::input::InputStream;
 use crate::output::OutputStream;
@@ -122,7 +122,7 @@ pub fn run_archive<R: Files<File = File> + Input + Print + AllocGlobal>(
 ) -> Result<(), Fault>
 where
     R::Reader: IsTerminal,
-    ensures { IfErr result (EndsRunBy path) }
+    ensures { EndsRun path result }
 {
     match read(rt, path.as_str()) {
         Ok((mut archive, read)) => edit_archive(rt, path, archive.as_mut_slice(), &read),

@@ -1,5 +1,6 @@
 pub mod CallsGiven
 pub mod CallsLines
+mod KeyLemmas
 mod Loads
 pub mod Nested
 mod Questions
@@ -10,4 +11,5 @@ pub mod Sessions
 pub mod SessionsGiven
 pub mod SessionsProgress
 pub mod SessionsResults
+mod WithoutWholes
 pub mod WorkedAnswers

@@ -69,7 +69,7 @@ mod SlotLookups
 mod Soundness
 mod SpelledPaths
 mod Standing
-mod Stepping
+pub mod Stepping
 mod Subtrees
 mod SubtreesMapped
 mod TableAudit

@@ -53,6 +53,10 @@ module _ {M Q : Type 0} (most : ℕ) (k v : Shape) (key_of : List ℕ → ℕ �
   abbrev pub FindsKey : {K : Type 0} (found : Option (Ref K)) → Type 0
   FindsKey found = FindsOf (key_at this.bytes) found
 
+  -- the key of the entry is found that the search ends at
+  abbrev pub LooksUpKey : {K : Type 0} (found : Option (Ref K)) → Type 0
+  LooksUpKey found = LooksUpOf (key_at this.bytes) found
+
   -- the key of the entry is found that the descent ends at
   abbrev pub AnswersKey : {K : Type 0} (found : Option (Ref K)) → Type 0
   AnswersKey found = AnswersOf (key_at this.bytes) found

@@ -2,7 +2,7 @@
 ghost use Rattle.std.specs.Prelude.{IfSome};
 ghost use Rattle.archive_forms_values.specs.Parts.{HasValue};
 ghost use Rattle.archive_btree_maps.specs.Sets.{HasSet, unit_shape};
-ghost use Rattle.archive_btree_maps.specs.Calls.Lookups.{AnswersKey, AnswersWhether, FindsKey, FindsWhether};
+ghost use Rattle.archive_btree_maps.specs.Calls.Lookups.{AnswersKey, AnswersWhether, FindsKey, FindsWhether, LooksUpKey, LooksUpWhether};
 
 use crate::map::ArchivedBTreeMap;
 use crate::set::ArchivedBTreeSet;
@@ -16,6 +16,7 @@ impl<K, const E: usize> ArchivedBTreeSet<K, E> {
         K: ArchivedKey<Q>,
         requires has { HasSet E K.shape K.knows this.bytes.now this.pos }
         ensures found { FindsWhether E K.shape unit_shape K.key_of K.order this.entry query.now result }
+        ensures looks_up { LooksUpWhether E K.shape unit_shape K.key_of K.order this.entry query.now result }
         ensures answers { AnswersWhether E K.shape unit_shape K.key_of K.order this.entry query.now result }
     {
         ArchivedBTreeMap::contains_key(as_map(this), query)
@@ -28,6 +29,7 @@ impl<K, const E: usize> ArchivedBTreeSet<K, E> {
         requires has { HasSet E K.shape K.knows this.bytes.now this.pos }
         ensures there { IfSome result (λ r. HasValue K.shape K.knows r.bytes.now r.pos) }
         ensures found { FindsKey E K.shape unit_shape K.key_of K.order this.entry query.now result }
+        ensures looks_up { LooksUpKey E K.shape unit_shape K.key_of K.order this.entry query.now result }
         ensures answers { AnswersKey E K.shape unit_shape K.key_of K.order this.entry query.now result }
     {
         match ArchivedBTreeMap::get_key_value(as_map(this), query) {

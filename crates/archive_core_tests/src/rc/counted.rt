@@ -13,7 +13,10 @@ use std::hash::{DefaultHasher, Hash, Hasher};
 use std::test::Fail;
 
 /// Returns the value at the root.
-fn root<T: CheckBytes<HighValidator>>(alloc: Global, bytes: &[u8]) -> Result<Ref<'_, T>, Error>
+pub(crate) fn root<T: CheckBytes<HighValidator>>(
+    alloc: Global,
+    bytes: &[u8],
+) -> Result<Ref<'_, T>, Error>
     requires { T.knows [] }
     ensures { IfOk result (λ r. HasValue T.shape T.knows r.bytes.now r.pos) }
 {

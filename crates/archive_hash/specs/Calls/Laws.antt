@@ -3,31 +3,34 @@ use Rattle.std.specs.Prelude.{◌≡◌, ◌≤◌, ℕ, Bool, List, length, Opt
 use Rattle.std.specs.HashMap.{HashMap, IsUnique, IsReordered, get}
 use Rattle.std.specs.HashSet as bag
 use Rattle.std.specs.HashSet.{HashSet, contains}
-use Rattle.std.specs.List.{AllZip}
+use Rattle.std.specs.List.{AllZip, find}
 use Rattle.std.specs.List.Sorted.{IsPermutation}
+use Rattle.std.specs.Ordering.{is_eq}
 use Rattle.std.specs.declared.default.Default.{Ghosts as Default}
 use Rattle.std.specs.declared.hash.Hasher.{Ghosts as Hasher}
 use Rattle.archive_shape_layout.specs.Content.{Names}
 use Rattle.archive_shape_layout.specs.Holds.{root_position}
 use Rattle.archive_shape_layout.specs.Shape.Shape.{table, tuple}
 use Rattle.archive_shape_layout.specs.Shape.Shapes.{no_shapes}
-use Rattle.archive_shape_layout.specs.Visited.{AllStand}
 use Rattle.archive_shape_canonical.specs.Canonical.{AreBytes}
 use Rattle.archive_shape_canonical.specs.Settled.{free}
+use Rattle.archive_shape.specs.declared.references.refs.Ref.{Ref}
 use Rattle.archive_shape.specs.declared.types.portable.Portable.{Ghosts as Portable}
 use Rattle.archive_forms_laws.specs.Fields.{unit_spelling}
-use Rattle.archive_forms_laws.specs.Spelling.{Spelling, state_after}
-use Rattle.archive_forms_laws.specs.State.{Keys, visits_of}
-use Rattle.archive_forms_laws.specs.WrittenAt.{IsWrittenAt}
+use Rattle.archive_forms_laws.specs.Spelling.{Spelling}
+use Rattle.archive_forms_laws.specs.State.{Keys}
+use Rattle.archive_forms_laws.specs.WrittenAt.{IsReadableAt}
 use Rattle.archive_forms_values.specs.Parts.{both}
 use Rattle.archive_forms_values.specs.Tuples.{tuple2}
+use Rattle.archive_forms_writing.specs.Readable.{FindsReadable}
 use Rattle.archive_forms_writing.specs.declared.archive.Archive.{Ghosts as Archive}
 use Rattle.archive_forms.specs.Alike.{AreAlike, AlikeAreOne, AreAlikeEntries}
 use Rattle.archive_forms.specs.Calls.Forms.{ReadMembers}
-use Rattle.archive_hash_maps.specs.Calls.Keys.{Hashes}
+use Rattle.archive_hash_maps.specs.Calls.Keys.{Hashes, GetsValue}
 use Rattle.archive_hash_maps.specs.Sets.{set_knows}
 use Rattle.archive_hash.specs.Answering.{IsWrittenMap, AnswersKeys}
-use Rattle.archive_hash.specs.Calls.Members.{HashMembers, KeyMembers}
+use Rattle.archive_shape.specs.Key.{KeyMembers}
+use Rattle.archive_hash.specs.Calls.Members.{HashMembers}
 use Rattle.archive_hash.specs.Owned.{key_entries}
 use Rattle.archive_hash.specs.declared.map.OwnedHashMap.{OwnedHashMap}
 use Rattle.archive_hash.specs.declared.set.OwnedHashSet.{OwnedHashSet}
@@ -42,8 +45,7 @@ WrittenMapAnswers {A} {B} k key v keys vals hash queries default hasher =
 
 -- ---- maps and sets that were written anywhere
 
--- Where they suit the fit that binds nothing. The shared values that were written before their data have their values
--- before it, and their own bytes lie after it.
+-- Where they suit the fit that binds nothing and can be read.
 module _ {A R Q H : Type 0} (k : KeyMembers Q) (key : A → Q) (keys : Spelling A R) (queries : HashMembers Q) (default : Default H) (hasher : Hasher H) where
   -- a map answers for its entries
   abbrev pub MapWrittenAtAnswers : {B C D P T : Type 0} → Portable C → Spelling B P → Archive (OwnedHashMap A B) D T → Type 0
@@ -52,9 +54,7 @@ module _ {A R Q H : Type 0} (k : KeyMembers Q) (key : A → Q) (keys : Spelling 
       → both k.knows v.knows names
       → AreBytes bytes
       → archived.spelling.suits free given map
-      → (written : IsWrittenAt given archived.spelling bytes pos map)
-      → AllStand names bytes written.state.pos (visits_of written.state.met)
-      → (state_after archived.spelling map written.state).pos ≤ pos
+      → IsReadableAt names given (table (tuple2 k.shape v.shape)) archived.spelling bytes pos map
       → AnswersKeys k.shape v.shape k.knows v.knows keys vals bytes key k.order (λ query. Hashes default hasher (queries.hash_input query)) k.key_of
       pos map.map.entries
 
@@ -65,11 +65,20 @@ module _ {A R Q H : Type 0} (k : KeyMembers Q) (key : A → Q) (keys : Spelling 
       → set_knows k.knows names
       → AreBytes bytes
       → archived.spelling.suits free given set
-      → (written : IsWrittenAt given archived.spelling bytes pos set)
-      → AllStand names bytes written.state.pos (visits_of written.state.met)
-      → (state_after archived.spelling set written.state).pos ≤ pos
+      → IsReadableAt names given (table (tuple2 k.shape (tuple no_shapes))) archived.spelling bytes pos set
       → AnswersKeys k.shape (tuple no_shapes) k.knows (λ _. ⊤) keys unit_spelling bytes key k.order (λ query. Hashes default hasher (queries.hash_input query)) k.key_of
       pos (key_entries set.set.keys)
+
+  -- a look-up in a map returns the value of the first entry with the key, which can be read, and nothing if there is none
+  abbrev pub ValuesAreReadable : {B C D P T : Type 0} → Portable C → Spelling B P → Archive (OwnedHashMap A B) D T → Type 0
+  ValuesAreReadable {B = B} {C = C} {D = D} v vals archived =
+      (names : Names) (given : Keys) (map : OwnedHashMap A B) (this : Ref D) (query : Q) (found : Option (Ref C))
+      → both k.knows v.knows names
+      → AreBytes this.bytes.now
+      → archived.spelling.suits free given map
+      → IsReadableAt names given (table (tuple2 k.shape v.shape)) archived.spelling this.bytes.now this.pos map
+      → GetsValue default hasher queries.hash_input k.key_of k.order k.shape v.shape this query found
+      → FindsReadable free names given v.shape vals (find (λ e. is_eq (k.order (key e.0) query)) map.map.entries) found
 
 -- ---- what is read back of the values of maps and sets
 

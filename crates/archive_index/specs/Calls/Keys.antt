@@ -9,7 +9,8 @@ use Rattle.archive_shape_layout.specs.Shape.{Shape}
 use Rattle.archive_shape.specs.declared.references.refs.Ref.{Ref}
 use Rattle.archive_hash_maps.specs.Maps.{KeySays, key_at}
 use Rattle.archive_hash_maps.specs.Calls.Keys.{Hashes}
-use Rattle.archive_hash.specs.Calls.Members.{HashMembers, KeyMembers}
+use Rattle.archive_shape.specs.Key.{KeyMembers}
+use Rattle.archive_hash.specs.Calls.Members.{HashMembers}
 use Rattle.archive_index.specs.Calls.Search.{LooksUpQuery}
 use Rattle.archive_index.specs.Lookups.{LooksUpEntry, value_of, pair_of, full_of}
 use Rattle.archive_index.specs.Maps.{IndexMap, IsMap, entry_position}

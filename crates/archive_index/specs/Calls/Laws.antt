@@ -1,23 +1,26 @@
 -- What the laws of all parts state.
-use Rattle.std.specs.Prelude.{true, ◌≡◌, ◌≤◌, ℕ, List, Vec, length, ⊤}
+use Rattle.std.specs.Prelude.{true, ◌≡◌, ℕ, List, Vec, length, Option, ⊤}
 use Rattle.std.specs.Global.{Global}
+use Rattle.std.specs.List.{find}
+use Rattle.std.specs.Ordering.{is_eq}
 use Rattle.std.specs.declared.default.Default.{Ghosts as Default}
 use Rattle.std.specs.declared.hash.Hasher.{Ghosts as Hasher}
 use Rattle.archive_shape_layout.specs.Holds.{root_position}
 use Rattle.archive_shape_layout.specs.Shape.{Shape}
 use Rattle.archive_shape_layout.specs.Shape.Shape.{index_map}
 use Rattle.archive_shape_layout.specs.Content.{Names}
-use Rattle.archive_shape_layout.specs.Visited.{AllStand}
 use Rattle.archive_shape_canonical.specs.Canonical.{AreBytes}
 use Rattle.archive_shape_canonical.specs.Settled.{Fit}
+use Rattle.archive_shape.specs.declared.references.refs.Ref.{Ref}
 use Rattle.archive_shape.specs.declared.types.portable.Portable.{Ghosts as Portable}
 use Rattle.archive_forms_values.specs.Parts.{both}
 use Rattle.archive_forms_laws.specs.Fields.{tuple2_spelling, unit_spelling}
 use Rattle.archive_forms_laws.specs.Forms.{seen_as}
 use Rattle.archive_forms_laws.specs.Regions.{all_suit}
-use Rattle.archive_forms_laws.specs.Spelling.{Spelling, state_after}
-use Rattle.archive_forms_laws.specs.State.{AreOneToOne, Keys, visits_of}
-use Rattle.archive_forms_laws.specs.WrittenAt.{IsWrittenAt}
+use Rattle.archive_forms_laws.specs.Spelling.{Spelling}
+use Rattle.archive_forms_laws.specs.State.{AreOneToOne, Keys}
+use Rattle.archive_forms_laws.specs.WrittenAt.{IsReadableAt}
+use Rattle.archive_forms_writing.specs.Readable.{FindsReadable}
 use Rattle.archive_forms_writing.specs.declared.archive.Archive.{Ghosts as Archive}
 use Rattle.archive_forms.specs.Alike.{AreElementsOf, AreEntriesOf}
 use Rattle.archive_forms.specs.Calls.Forms.{ReadMembers}
@@ -26,10 +29,12 @@ use Rattle.archive_hash_maps.specs.Calls.Keys.{Hashes}
 use Rattle.archive_hash_maps.specs.Sets.{set_knows}
 use Rattle.archive_hash_probing.specs.Inputs.{input_hash}
 use Rattle.archive_hash_writing.specs.IndexResolvers.{pairs_spelling}
-use Rattle.archive_hash.specs.Calls.Members.{HashMembers, KeyMembers}
+use Rattle.archive_shape.specs.Key.{KeyMembers}
+use Rattle.archive_hash.specs.Calls.Members.{HashMembers}
 use Rattle.archive_hash.specs.Owned.{key_entries}
+use Rattle.archive_index.specs.Calls.Keys.{GetsValue}
 use Rattle.archive_index.specs.Answering.{IsWrittenMap, AnswersInOrder}
-use Rattle.archive_index.specs.Owned.{IsWrittenOf, owned_set_spelling, owned_spelling}
+use Rattle.archive_index.specs.Owned.{IsWrittenOf}
 use Rattle.archive_index.specs.Sets.{unit_shape}
 use Rattle.archive_index.specs.declared.owned.OwnedIndexMap.{OwnedIndexMap}
 use Rattle.archive_index.specs.declared.owned_set.OwnedIndexSet.{OwnedIndexSet}
@@ -44,59 +49,66 @@ WrittenMapAnswers {A} {B} k key v keys vals hash queries default hasher =
 
 -- ---- maps and sets that were written anywhere
 
--- Where each fit suits all keys and values of some entries, as where these have no tables. The shared values that were
--- written before the data of the entries have their values before it, and the own bytes of their map lie after it.
-module _ {A R Q H : Type 0} (k : KeyMembers Q) (key : A → Q) (keys : Spelling A R) (hash : HashMembers A) (queries : HashMembers Q) (default : Default H) (hasher : Hasher H) where
+-- Where they suit some fit, as that which binds nothing, and can be read.
+module _ {A R Q H : Type 0} (k : KeyMembers Q) (key : A → Q) (keys : Spelling A R) (queries : HashMembers Q) (default : Default H) (hasher : Hasher H) where
   -- a map answers for its entries, in their order
-  abbrev pub MapWrittenAtAnswers : {B C P : Type 0} → Portable C → Spelling B P → Type 0
-  MapWrittenAtAnswers {B} v vals =
-      (names : Names) (given : Keys) (bytes : List ℕ) (pos : ℕ) (map : OwnedIndexMap A B)
+  abbrev pub MapWrittenAtAnswers : {B C D P T : Type 0} → Portable C → Spelling B P → Archive (OwnedIndexMap A B) D T → Type 0
+  MapWrittenAtAnswers {B = B} v vals archived =
+      (names : Names) (given : Keys) (fit : Fit) (bytes : List ℕ) (pos : ℕ) (map : OwnedIndexMap A B)
       → both k.knows v.knows names
       → AreBytes bytes
-      → ((fit : Fit) → all_suit (tuple2_spelling k.shape keys v.shape vals) fit given map.pairs.items)
-      → (written : IsWrittenAt given (owned_spelling hash k.shape v.shape keys vals) bytes pos map)
-      → AllStand names bytes written.state.pos (visits_of written.state.met)
-      → (state_after (owned_spelling hash k.shape v.shape keys vals) map written.state).pos ≤ pos
+      → archived.spelling.suits fit given map
+      → IsReadableAt names given (index_map k.shape v.shape) archived.spelling bytes pos map
       → AnswersInOrder k.shape v.shape k.knows v.knows keys vals bytes key k.order (λ query. Hashes default hasher (queries.hash_input query)) k.key_of
       pos map.pairs.items
 
   -- a set answers for its keys, as a map of them to `()`
-  abbrev pub SetWrittenAtAnswers : Type 0
-  SetWrittenAtAnswers =
-      (names : Names) (given : Keys) (bytes : List ℕ) (pos : ℕ) (set : OwnedIndexSet A)
+  abbrev pub SetWrittenAtAnswers : {D T : Type 0} → Archive (OwnedIndexSet A) D T → Type 0
+  SetWrittenAtAnswers archived =
+      (names : Names) (given : Keys) (fit : Fit) (bytes : List ℕ) (pos : ℕ) (set : OwnedIndexSet A)
       → set_knows k.knows names
       → AreBytes bytes
-      → ((fit : Fit) → all_suit keys fit given set.keys.items)
-      → (written : IsWrittenAt given (owned_set_spelling hash k.shape keys) bytes pos set)
-      → AllStand names bytes written.state.pos (visits_of written.state.met)
-      → (state_after (owned_set_spelling hash k.shape keys) set written.state).pos ≤ pos
+      → archived.spelling.suits fit given set
+      → IsReadableAt names given (index_map k.shape unit_shape) archived.spelling bytes pos set
       → AnswersInOrder k.shape unit_shape k.knows (λ _. ⊤) keys unit_spelling bytes key k.order (λ query. Hashes default hasher (queries.hash_input query)) k.key_of
       pos (key_entries set.keys.items)
 
+  -- a look-up in a map returns the value of the first entry with the key, which can be read, and nothing if there is none
+  abbrev pub ValuesAreReadable : {B C D P T : Type 0} → Portable C → Spelling B P → Archive (OwnedIndexMap A B) D T → Type 0
+  ValuesAreReadable {B = B} {C = C} {D = D} v vals archived =
+      (names : Names) (given : Keys) (fit : Fit) (map : OwnedIndexMap A B) (this : Ref D) (query : Q) (found : Option (Ref C))
+      → both k.knows v.knows names
+      → AreBytes this.bytes.now
+      → archived.spelling.suits fit given map
+      → IsReadableAt names given (index_map k.shape v.shape) archived.spelling this.bytes.now this.pos map
+      → GetsValue k v.shape default hasher queries query this found
+      → FindsReadable fit names given v.shape vals (find (λ e. is_eq (k.order (key e.0) query)) map.pairs.items) found
+
 -- ---- whole archives
 
--- what is written of pairs as a whole archive is the archive of an index map of them
+-- What is written of a value as a whole archive is the archive of an index map of its entries: those of owned pairs are the
+-- pairs, and those of owned keys are the keys, each with `()`.
 module _ {A B R P K V : Type 0} (k : Portable K) (v : Portable V) (keys : Spelling A R) (vals : Spelling B P) (hash : HashMembers A) where
-  -- under a fit that binds and suits them, and names and keys of shared values
-  abbrev pub OwnedMapIsWritten : Type 0
-  OwnedMapIsWritten =
-      (map : OwnedIndexMap A B) (bytes : List ℕ) (fit : Fit) (names : Names) (given : Keys)
+  -- under a fit that binds and suits it, and names and keys of shared values
+  abbrev pub OwnedIsWritten : {M D T : Type 0} → Archive M D T → (M → List (A × B)) → Type 0
+  OwnedIsWritten {M = M} archived entries =
+      (x : M) (bytes : List ℕ) (fit : Fit) (names : Names) (given : Keys)
       → fit.binds ≡ true
-      → (owned_spelling hash k.shape v.shape keys vals).suits fit given map
+      → archived.spelling.suits fit given x
       → both k.knows v.knows names
       → AreOneToOne given
-      → IsWrittenOf hash k.shape v.shape keys vals map bytes
-      → IsWrittenMap k.shape v.shape k.knows v.knows keys vals bytes hash.hash_input map.pairs.items
+      → IsWrittenOf (index_map k.shape v.shape) archived.spelling x bytes
+      → IsWrittenMap k.shape v.shape k.knows v.knows keys vals bytes hash.hash_input (entries x)
 
-  -- under one of their own, where each fit suits all keys and values, as where these have no tables
-  abbrev pub PlainMapIsWritten : Type 0
-  PlainMapIsWritten =
-      (map : OwnedIndexMap A B) (bytes : List ℕ) (names : Names) (given : Keys)
-      → ((fit : Fit) → all_suit (tuple2_spelling k.shape keys v.shape vals) fit given map.pairs.items)
+  -- under one of its own, where each fit suits all keys and values, as where these have no tables
+  abbrev pub PlainIsWritten : {M D T : Type 0} → Archive M D T → (M → List (A × B)) → Type 0
+  PlainIsWritten {M = M} archived entries =
+      (x : M) (bytes : List ℕ) (names : Names) (given : Keys)
+      → ((fit : Fit) → all_suit (tuple2_spelling k.shape keys v.shape vals) fit given (entries x))
       → both k.knows v.knows names
       → AreOneToOne given
-      → IsWrittenOf hash k.shape v.shape keys vals map bytes
-      → IsWrittenMap k.shape v.shape k.knows v.knows keys vals bytes hash.hash_input map.pairs.items
+      → IsWrittenOf (index_map k.shape v.shape) archived.spelling x bytes
+      → IsWrittenMap k.shape v.shape k.knows v.knows keys vals bytes hash.hash_input (entries x)
 
 -- a map is read back as a list of pairs that is archived as what was read
 abbrev pub MapsAreFaithful : {A B R Q : Type 0} → HashMembers A → Shape → Shape → Spelling A R → Spelling B Q → ReadMembers (Vec (A × B) Global) → Type 0

@@ -12,7 +12,8 @@ use Rattle.archive_shape.specs.declared.types.portable.Portable.{Ghosts as Porta
 use Rattle.archive_forms_values.specs.Loans.{IsLent}
 use Rattle.archive_hash_maps.specs.Maps.{KeySays, key_at}
 use Rattle.archive_hash_maps.specs.Calls.Keys.{Hashes}
-use Rattle.archive_hash.specs.Calls.Members.{HashMembers, KeyMembers}
+use Rattle.archive_shape.specs.Key.{KeyMembers}
+use Rattle.archive_hash.specs.Calls.Members.{HashMembers}
 use Rattle.archive_index.specs.Calls.Search.{LooksUpQuery}
 use Rattle.archive_index.specs.Lookups.{LooksUpEntry, value_position_of}
 use Rattle.archive_index.specs.Maps.{IndexMap, IsMapAt, entry_position}

@@ -9,7 +9,8 @@ use Rattle.archive_shape.specs.declared.references.refs.Ref.{Ref}
 use Rattle.archive_forms_values.specs.Tuples.{tuple2}
 use Rattle.archive_hash_maps.specs.Maps.{KeySays, key_at}
 use Rattle.archive_hash_maps.specs.Calls.Keys.{Hashes}
-use Rattle.archive_hash.specs.Calls.Members.{HashMembers, KeyMembers}
+use Rattle.archive_shape.specs.Key.{KeyMembers}
+use Rattle.archive_hash.specs.Calls.Members.{HashMembers}
 use Rattle.archive_index.specs.Maps.{IndexMap, IsMapAt, count_of, entry_position}
 use Rattle.archive_index.specs.Lookups.{AnswersEntry, LooksUpEntry}
 

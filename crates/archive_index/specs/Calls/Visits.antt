@@ -10,7 +10,8 @@ use Rattle.archive_shape.specs.declared.references.seal.Seal.{Seal}
 use Rattle.archive_shape.specs.declared.types.portable.Portable.{Ghosts as Portable}
 use Rattle.archive_forms_values.specs.Loans.{VisitsFound}
 use Rattle.archive_hash_maps.specs.Calls.Entries.{LeavesAt}
-use Rattle.archive_hash.specs.Calls.Members.{HashMembers, KeyMembers}
+use Rattle.archive_shape.specs.Key.{KeyMembers}
+use Rattle.archive_hash.specs.Calls.Members.{HashMembers}
 use Rattle.archive_index.specs.Calls.Lending.{LendsOf, LendsBy}
 use Rattle.archive_index.specs.Maps.{IndexMap, IsMapAt, entry_position}
 

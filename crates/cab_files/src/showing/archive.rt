@@ -1,8 +1,9 @@
 //! Printing the text of an archive's document, or a map of the archive.
-ghost use Rattle.std.specs.Prelude.{◌≡◌, ◌+◌, ◌-◌, ◌^◌, ◌<◌, IfOk, IfErr};
+ghost use Rattle.std.specs.Prelude.{◌≡◌, ◌+◌, ◌-◌, ◌^◌, ◌<◌, IfOk, IfErr, OnOk, OnErr};
 ghost use Rattle.cabinet_archives.specs.Refused.{refusal_of};
 ghost use Rattle.cabinet_documents.specs.Audit.{IsRefusedFor};
-ghost use Rattle.cab_files.specs.Showing.{EndsShowBy, WritesView, failed_writes};
+ghost use Rattle.cab_files.specs.Ending.{IsArchive};
+ghost use Rattle.cab_files.specs.Showing.{EndsPrinting, EndsShow, WritesView, failed_writes};
 
 use crate::ending::standard_output;
 use crate::mapping::write_checked_map;
@@ -58,8 +59,10 @@ fn write_all<W: Write + Drop>(
     output: &mut OutputStream<W>,
 ) -> Result<bool, OpenRefusal>
     requires { output.old.failures < 2 ^ 64 - 1 }
+    ensures archive { OnOk result (IsArchive archive.now) }
     ensures refused { IfErr result (λ refusal. IsRefusedFor archive.now (refusal_of refusal)) }
     ensures counted { IfOk result (λ whole. output.new.failures ≡ output.old.failures + failed_writes whole) }
+    ensures unwritten { OnErr result (output.new.failures ≡ output.old.failures) }
 {
     match write_view(alloc, archive, view, output)? {
         Ok(()) => Ok(output.flush().is_ok()),
@@ -67,19 +70,22 @@ fn write_all<W: Write + Drop>(
     }
 }
 
-/// Prints a view of the bytes, which are an archive, and returns whether all of it was printed.
-fn print_view<R: Print>(
-    rt: &R,
+/// Prints a view of the bytes of the file at a path to a stream.
+fn print_view<W: Write + Drop>(
     alloc: Global,
     archive: &[u8],
+    path: String,
     view: View,
-) -> Result<bool, OpenRefusal>
-    ensures { IfErr result (λ refusal. IsRefusedFor archive.now (refusal_of refusal)) }
+    output: &mut OutputStream<W>,
+) -> Result<(), Fault>
+    requires { output.old.failures < 2 ^ 64 - 1 }
+    ensures { EndsPrinting archive.now path output.old.failures output.new.failures result }
 {
-    let Ok(stream) = BufWriter::with_capacity(alloc, BUFFER, io::writer(rt)) else {
-        return Ok(false);
-    };
-    write_all(alloc, archive, view, &mut OutputStream::new(stream, false))
+    match write_all(alloc, archive, view, output) {
+        Ok(true) => Ok(()),
+        Ok(false) => Err(Fault::CannotWrite(standard_output(path))),
+        Err(refusal) => Err(Fault::Open(refusal)),
+    }
 }
 
 /// Prints a view of an archive file.
@@ -88,16 +94,16 @@ fn show<R: Files<File = File> + Print + AllocGlobal>(
     path: String,
     view: View,
 ) -> Result<(), Fault>
-    ensures { IfErr result (EndsShowBy path) }
+    ensures { EndsShow path result }
 {
     let Ok((archive, _)) = read(rt, path.as_str()) else {
         return Err(Fault::CannotRead(path));
     };
-    match print_view(rt, rt.alloc(), archive.as_slice(), view) {
-        Ok(true) => Ok(()),
-        Ok(false) => Err(Fault::CannotWrite(standard_output(path))),
-        Err(refusal) => Err(Fault::Open(refusal)),
-    }
+    let Ok(stream) = BufWriter::with_capacity(rt.alloc(), BUFFER, io::writer(rt)) else {
+        return Err(Fault::CannotWrite(standard_output(path)));
+    };
+    let mut output = OutputStream::new(stream, false);
+    print_view(rt.alloc(), archive.as_slice(), path, view, &mut output)
 }
 
 /// Prints the text of the document that an archive file holds.
@@ -105,7 +111,7 @@ pub fn show_archive<R: Files<File = File> + Print + AllocGlobal>(
     rt: &R,
     path: String,
 ) -> Result<(), Fault>
-    ensures { IfErr result (EndsShowBy path) }
+    ensures { EndsShow path result }
 {
     show(rt, path, View::Text)
 }
@@ -118,7 +124,7 @@ pub fn map_archive<R: Files<File = File> + Print + AllocGlobal>(
     lines: Option<u64>,
     characters: Option<u64>,
 ) -> Result<(), Fault>
-    ensures { IfErr result (EndsShowBy path) }
+    ensures { EndsShow path result }
 {
     show(rt, path, View::Map { lines, characters })
 }

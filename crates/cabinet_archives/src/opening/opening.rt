@@ -40,7 +40,8 @@ fn access_root(alloc: Global, bytes: &[u8]) -> Result<Ref<'_, ArchivedNode>, Err
 
 /// Checks that bytes are the archive of a document: their root is accessed, and then audited. The memory that it
 /// allocates grows with the depth that it reaches and with the number of shared texts and of wholes, and not with what the
-/// bytes state. The caller chooses the scan `G`, by which keys of hashed maps are looked up.
+/// bytes state. The caller chooses the scan `G`, by which keys
+/// of hashed maps are looked up.
 pub fn check_scanned<G: Scan>(alloc: Global, bytes: &[u8]) -> Result<(), OpenRefusal>
     ensures accepted { OnOk result ((t : Tree) × Accepted bytes.now t) }
     ensures refused { IfErr result (λ r. IsRefusedFor bytes.now (refusal_of r)) }

@@ -4,7 +4,7 @@ use Rattle.archive_btree.proofs.WrittenAt.{standing_map, unshared_map}
 use Rattle.archive_btree.proofs.laws.map_written_at_answers.Goals as goal
 
 pub returns-clause-shared : goal.returns-clause-shared
-returns-clause-shared g c bytes pos names keys fit some small known suits written stand =
+returns-clause-shared g c = λ bytes pos names keys fit some small known suits written stand.
     let es = c.args.map.now.map.entries in
     read_answers
     g.row.E g.K.Archived.Portable.shape g.V.Archived.Portable.shape g.K.Archived.Portable.knows g.V.Archived.Portable.knows g.K.Archive.spelling g.V.Archive.spelling bytes
@@ -16,7 +16,7 @@ returns-clause-shared g c bytes pos names keys fit some small known suits writte
     (keys_ascend g.K.Ord.cmp g.K.Archived.KeyOf.key g.K.Archived.ArchivedKey.order g.met.K.Archived.OrderedKeyOf.in_order es c.len-len.ensures.ordered)
 
 pub returns-clause-unshared : goal.returns-clause-unshared
-returns-clause-unshared g c bytes pos names keys some small known none written =
+returns-clause-unshared g c = λ bytes pos names keys some small known none written.
     let es = c.args.map.now.map.entries in
     read_answers
     g.row.E g.K.Archived.Portable.shape g.V.Archived.Portable.shape g.K.Archived.Portable.knows g.V.Archived.Portable.knows g.K.Archive.spelling g.V.Archive.spelling bytes

@@ -1,23 +1,8 @@
-use Rattle.std.proofs.Common.{List, [], ◌∷◌, None, false}
-use Rattle.archive_shape_layout.specs.Value.Values.{no_values}
-use Rattle.archive_shape_canonical.specs.Settled.{Fit}
+use Rattle.std.proofs.Common.{[]}
 use Rattle.archive_forms_laws.specs.Fields.{tuple2_spelling}
-use Rattle.archive_forms_laws.specs.Regions.{all_suit}
 use Rattle.archive_forms_laws.specs.Sample.{number_shape, number_spelling}
-use Rattle.archive_forms_laws.specs.Spelling.{Spelling}
-use Rattle.archive_forms_laws.specs.State.{Keys}
+use Rattle.archive_btree_tests.proofs.Suits.{any_fit, no_keys, suit}
 use Rattle.archive_btree_tests.proofs.read_back.archived_and_read.Goals as goal
-
--- a fit that does not bind, and keys that denote nothing
-any_fit : Fit
-any_fit = record { binds = false; capacity = λ n. 0; table_controls = λ vs. []; table_items = λ vs. no_values; map_controls = λ vs. []; map_numbers = λ vs. [] }
-
-no_keys : Keys
-no_keys = λ k. None
-
-suit : {A R : Type 0} (w : Spelling A R) (fit : Fit) (keys : Keys) → ((x : A) → w.suits fit keys x) → (xs : List A) → all_suit w fit keys xs
-suit w fit keys each [] = tt
-suit w fit keys each (x ∷ xs) = (each x, suit w fit keys each xs)
 
 pub one_is_equal-requires : goal.one_is_equal-requires
 one_is_equal-requires c = c.alike_leaves_are_one.ensures.unsigned_32

@@ -1,4 +1,4 @@
-use Rattle.archive_core.proofs.Parts.{boxed_law, boxed_readable_law}
+use Rattle.archive_forms_writing.proofs.Readable.{boxed_law, boxed_readable_law}
 use Rattle.archive_core.proofs.laws.boxed_is_written.Goals as goal
 
 pub returns-clause-written : goal.returns-clause-written

@@ -1,4 +1,4 @@
-use Rattle.archive_core.proofs.Parts.{elements_law, elements_readable_law}
+use Rattle.archive_forms_writing.proofs.Readable.{elements_law, elements_readable_law}
 use Rattle.archive_core.proofs.laws.elements_are_written.Goals as goal
 
 pub returns-clause-written : goal.returns-clause-written

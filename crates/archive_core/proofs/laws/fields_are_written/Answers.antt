@@ -1,4 +1,4 @@
-use Rattle.archive_core.proofs.Parts.{fields2_law, fields3_law, fields4_law}
+use Rattle.archive_forms_writing.proofs.Readable.{fields2_law, fields3_law, fields4_law}
 use Rattle.archive_core.proofs.laws.fields_are_written.Goals as goal
 
 pub returns-clause-of_two : goal.returns-clause-of_two

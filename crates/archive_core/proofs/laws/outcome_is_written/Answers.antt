@@ -1,4 +1,4 @@
-use Rattle.archive_core.proofs.Parts.{ok_law, err_law, ok_readable_law, err_readable_law}
+use Rattle.archive_forms_writing.proofs.Readable.{ok_law, err_law, ok_readable_law, err_readable_law}
 use Rattle.archive_core.proofs.laws.outcome_is_written.Goals as goal
 
 pub returns-clause-ok : goal.returns-clause-ok

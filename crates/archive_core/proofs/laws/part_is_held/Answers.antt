@@ -1,4 +1,4 @@
-use Rattle.archive_core.proofs.Parts.{held_law}
+use Rattle.archive_forms_writing.proofs.Readable.{held_law}
 use Rattle.archive_core.proofs.laws.part_is_held.Goals as goal
 
 pub returns : goal.returns

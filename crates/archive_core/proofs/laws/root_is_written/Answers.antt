@@ -1,4 +1,4 @@
-use Rattle.archive_core.proofs.Parts.{root_law, root_readable_law}
+use Rattle.archive_core.proofs.Roots.{root_law, root_readable_law}
 use Rattle.archive_core.proofs.laws.root_is_written.Goals as goal
 
 pub returns-clause-written : goal.returns-clause-written

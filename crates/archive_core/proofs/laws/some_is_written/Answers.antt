@@ -1,4 +1,4 @@
-use Rattle.archive_core.proofs.Parts.{some_law, some_readable_law}
+use Rattle.archive_forms_writing.proofs.Readable.{some_law, some_readable_law}
 use Rattle.archive_core.proofs.laws.some_is_written.Goals as goal
 
 pub returns-clause-written : goal.returns-clause-written

@@ -1,5 +1,5 @@
-use Rattle.archive_core.proofs.Reached.{seen_law, kept_law}
-use Rattle.archive_core.proofs.Parts.{seen_readable_law, kept_readable_law}
+use Rattle.archive_forms_writing.proofs.Reached.{seen_law, kept_law}
+use Rattle.archive_forms_writing.proofs.Readable.{seen_readable_law, kept_readable_law}
 use Rattle.archive_core.proofs.laws.views_are_written.Goals as goal
 
 pub returns-clause-seen : goal.returns-clause-seen

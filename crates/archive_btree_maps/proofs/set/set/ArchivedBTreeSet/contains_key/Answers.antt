@@ -5,3 +5,6 @@ returns-clause-found g c = simp c.as_map.ensures at c.contains_key.ensures.found
 
 pub returns-clause-answers : goal.returns-clause-answers
 returns-clause-answers g c = simp c.as_map.ensures at c.contains_key.ensures.answers
+
+pub returns-clause-looks_up : goal.returns-clause-looks_up
+returns-clause-looks_up g c = simp c.as_map.ensures at c.contains_key.ensures.looks_up

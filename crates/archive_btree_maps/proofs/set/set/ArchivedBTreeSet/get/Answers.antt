@@ -18,3 +18,15 @@ pub returns-in-None-clause-answers : goal.returns-in-None-clause-answers
 returns-in-None-clause-answers g c t order h q =
     let answers = simp c.as_map.ensures at c.in-None.ensures.answers in
     key_found c.args.this.bytes None (descend order t) (answers t order h q)
+
+pub returns-in-Some-clause-looks_up : goal.returns-in-Some-clause-looks_up
+returns-in-Some-clause-looks_up g c t h =
+    let looks_up = simp c.as_map.ensures at c.in-Some.ensures.looks_up in
+    let look = looks_up t h in
+    (look.0, look.1, key_found c.args.this.bytes (Some (c.in-Some.key, c.in-Some.field-0-1)) look.0 look.2)
+
+pub returns-in-None-clause-looks_up : goal.returns-in-None-clause-looks_up
+returns-in-None-clause-looks_up g c t h =
+    let looks_up = simp c.as_map.ensures at c.in-None.ensures.looks_up in
+    let look = looks_up t h in
+    (look.0, look.1, key_found c.args.this.bytes None look.0 look.2)

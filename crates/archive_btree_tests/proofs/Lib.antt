@@ -1,0 +1,2 @@
+mod Suits
+mod Told

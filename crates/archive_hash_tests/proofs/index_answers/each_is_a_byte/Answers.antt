@@ -1,0 +1,5 @@
+use Rattle.std.proofs.Common.{arith}
+use Rattle.archive_hash_tests.proofs.index_answers.each_is_a_byte.Goals as goal
+
+pub returns : goal.returns
+returns c i = omega (arith, c.type_inv.bytes i)
