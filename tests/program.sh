@@ -174,6 +174,11 @@ refuses 'a key that a kept map has' "kept 2\n'b\nint 1\n'b\nint 2\n" 4 KeyRepeat
 refuses 'keys of an ordered map that descend' "ordered 2\n'b\nint 1\n'a\nint 2\n" 4 KeyOrder
 refuses 'a key that an ordered map has' "ordered 2\n'b\nint 1\n'b\nint 2\n" 4 KeyOrder
 refuses 'keys that ascend only without regard to case' "ordered 2\n'a\nint 1\n'B\nint 2\n" 4 KeyOrder
+twelve=$(printf "'%s\\\\nint 1\\\\n" {a..l})
+refuses 'a key out of order after twelve' "ordered 13\n$twelve'c\nint 1\n" 26 KeyOrder
+refuses 'a key of a hashed map out of order after twelve' "hashed 13\n$twelve'c\nint 1\n" 26 KeyOrder
+refuses 'a key that a kept map has, after twelve' "kept 13\n$twelve'c\nint 1\n" 26 KeyRepeated
+refuses 'a key that a kept map has, after keys in no order' "kept 3\n'b\nint 1\n'a\nint 2\n'b\nint 3\n" 6 KeyRepeated
 refuses 'a map with no key' 'ordered 1\nint 1\n' 2 KeyExpected
 refuses 'a key with a space' "ordered 1\n'a b\nint 1\n" 2 BadEscape
 refuses 'a key with nothing under it' "ordered 1\n'a\n" 3 EndTooEarly

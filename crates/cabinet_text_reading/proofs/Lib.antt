@@ -1,3 +1,4 @@
+pub mod Ascending
 pub mod Causes
 pub mod Compared
 pub mod Cuts
@@ -7,10 +8,12 @@ pub mod Header
 pub mod Heads
 pub mod Lifted
 pub mod LineLemmas
+pub mod Lookups
 pub mod Loop
 pub mod Paths
 pub mod Roots
 pub mod ReadTo
+pub mod Seen
 pub mod Stacks
 pub mod Taken
 pub mod Wrong

@@ -17,14 +17,14 @@ use Rattle.cabinet_text_grammar.specs.Wholes.{has, numbered, with_wholes, wholes
 use Rattle.cabinet_text_grammar.proofs.Completing.{wholes-plug}
 use Rattle.cabinet_text_grammar.proofs.Items.{IsUnstuck, items-step}
 use Rattle.cabinet_text_grammar.proofs.Legal.{Fits, IsLegalState, legal-step}
-use Rattle.cabinet_text_grammar.proofs.Tables.{legal_numbered}
+use Rattle.cabinet_text_grammar.proofs.Tables.{legal_numbered, listed_table}
 use Rattle.cabinet_text_nodes.specs.Order.{IsEnd, IsWalk, WalksNode, WalksNodes}
 use Rattle.cabinet_text_nodes.specs.View.{node_tree, whole_of, table_of}
 use Rattle.cabinet_text_nodes.specs.declared.node.Node.{Node}
 use Rattle.cabinet_text_nodes.specs.declared.node.Node.TheVariants as node
 use Rattle.cabinet_text_nodes.proofs.Faults.{values}
 use Rattle.cabinet_text_nodes.proofs.Views.{node_tree-whole}
-use Rattle.cabinet_text_nodes.proofs.Walks.{all_end, end_of_end, wholes_end, wholes_end_in, wholes_end_by, then_walk, then_stopped, walked_pairs}
+use Rattle.cabinet_text_nodes.proofs.Walks.{all_end, end_of_end, wholes_end, wholes_end_in, wholes_end_by, then_walk, then_stopped, walked_pairs, complete_adds}
 use Rattle.cabinet_text_reading.specs.View.{frame_of, stack_onto, stack_of, keyed_kind, keyed_entries}
 use Rattle.cabinet_text_reading.specs.Wholes.{table_in, reading_of, IsAtLine, number_of, WalksFrame, WalksStack, WalksRoot}
 use Rattle.cabinet_text_reading.specs.declared.stack.frame.Frame.{Frame}
@@ -200,6 +200,26 @@ DecidesOrder wholes fs number told =
 pub order_told : (w : Wholes) (fs : List Frame) (number : Option ℕ) (told : Bool) (i : Item) (t : Tree) (lines : List ℕ) → DecidesOrder w.entries.items fs number told → number ≡ number_of i → IsAtLine w (stack_of (table_in w) fs) (spelled i) lines → step (table_in w) (stack_of (table_in w) fs) i ≡ complete t
     → Decides told (wholes_of t ≡ table_in w)
 order_told w fs number told i t lines decides same at done_by = decides i t same done_by at.reading.table (around w.lacking) at.reading.stack
+
+-- ---- roots without wholes
+
+frame_adds_none : (d : ℕ) (f : spec.Frame) → IsOpen [] d f → with_frame [] f ≡ []
+frame_adds_none d in_option opened = refl
+frame_adds_none d (in_list n ts) opened = complete_adds [] (listed_table [] tt) (tree.list ts) opened.4
+frame_adds_none d (at_key kind n ps) opened = complete_adds [] (listed_table [] tt) (tree.map kind ps) opened.4
+frame_adds_none d (at_value kind n ps k) opened = complete_adds [] (listed_table [] tt) (tree.map kind ps) opened.0.4
+
+stack_adds_none : (n : ℕ) (fs : List spec.Frame) → AreOpen [] n fs → with_stack [] fs ≡ []
+stack_adds_none n [] opened = refl
+stack_adds_none n (f ∷ outer) opened = ap (λ done. with_frame done f) (stack_adds_none n outer opened.2) ∙ frame_adds_none (n + length outer + 1) f opened.0
+
+-- where no whole is complete, the root that a node without wholes completes has none
+pub none_in_order : (wholes : List Node) (fs : List Frame) (number : Option ℕ) → wholes ≡ [] → number ≡ None → DecidesOrder wholes fs number true
+none_in_order wholes fs number none alone i t same done_by table n opened =
+    let empty : table_of wholes ≡ [] = ap table_of none in
+    let none_in_stack : with_stack [] (stack_of (table_of wholes) fs) ≡ [] =
+    stack_adds_none n (stack_of (table_of wholes) fs) (subst (λ ts. AreOpen ts n (stack_of (table_of wholes) fs)) empty opened) in
+    (λ yes. wholes_before (table_of wholes) (stack_of (table_of wholes) fs) i t (sym alone ∙ same) done_by ∙ none_in_stack ∙ sym empty, λ are. refl)
 
 -- ---- the tree of a whole
 

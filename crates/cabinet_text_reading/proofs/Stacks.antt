@@ -1,18 +1,13 @@
 -- The stack of the code as open containers.
 use Rattle.std.proofs.Common.{◌≡◌, ◌≢◌, ℕ, zero, suc, ◌+◌, get_or, slice_set, List, [], ◌∷◌, ◌++◌, length, length-append, ◌<◌, subst, sym, ap, ◌∙◌, refl, arith, inl, inr, Vec, Global, String}
-use Rattle.std.specs.Prelude.{string_bytes, string_cmp}
-use Rattle.std.specs.declared.cmp.Ordering.TheVariants.{Less, Greater}
-use Rattle.std.specs.Ordering.{nat_cmp, ordering_reverse}
-use Rattle.std.specs.Cmp.Lexicographic.{slice_cmp}
-use Rattle.std.specs.BTreeMap.{insert_entry}
+use Rattle.std.specs.Prelude.{string_bytes}
 use Rattle.std.proofs.Math.Nat.{lt_irrefl}
 use Rattle.std.proofs.lemmas.List.{set-get_or}
-use Rattle.std.proofs.lemmas.Cmp.{nat_list_cmp_total}
 use Rattle.std.proofs.lemmas.Bool.Decides.{eqb_tells}
 use Rattle.cabinet_text_grammar.specs.Due.{a_head, a_key, due_in}
 use Rattle.cabinet_text_grammar.specs.Frame as frame
 use Rattle.cabinet_text_grammar.specs.Frame.{keys_after, WantsNode}
-use Rattle.cabinet_text_grammar.specs.Keys.{MapKind, ordered, hashed, IsAboveLast}
+use Rattle.cabinet_text_grammar.specs.Keys.{MapKind}
 use Rattle.cabinet_text_grammar.specs.Tree as tree
 use Rattle.cabinet_text_grammar.specs.Tree.{Tree, Trees, Pairs, no_pairs, more_pairs, ArePairs}
 use Rattle.cabinet_text_grammar.proofs.Legal.{head_due}
@@ -121,26 +116,6 @@ module _ (table : List Tree) where
   list_open ns all n count outer h more =
       let long = ap length h ∙ length-append ns (n ∷ []) in
       list_more ns all n count outer h (λ e. lt_irrefl count (subst (λ i. i < count) (sym long ∙ e) more))
-
--- hashed pairs ascend as ordered ones do
-pub as_ordered : (keys : List (List ℕ)) (ps : Pairs) → ArePairs hashed keys ps → ArePairs ordered keys ps
-as_ordered keys no_pairs are = tt
-as_ordered keys (more_pairs k t ps) are = (are.0, (are.1.0, as_ordered (k ∷ keys) ps are.1.1))
-
--- a key above the last of ascending keys is above each
-above_first : (keys : List (List ℕ)) (ps : Pairs) (k : List ℕ) → ArePairs ordered keys ps → IsAboveLast (keys_after keys ps) k → IsAboveLast keys k
-above_first keys no_pairs k are above = above
-above_first [] (more_pairs l t ps) k are above = tt
-above_first (last ∷ keys) (more_pairs l t ps) k are above =
-    nat_list_cmp_total.trans last l k are.0.1 (above_first (l ∷ last ∷ keys) ps k are.1.1 above)
-
--- and is inserted at the end of the map
-pub insert_behind : (table : List Tree) (keys : List (List ℕ)) (es : List (String Global × Node)) (k : String Global) (n : Node) → ArePairs ordered keys (node_pairs table es) → IsAboveLast (keys_after keys (node_pairs table es)) (string_bytes k) → insert_entry string_cmp es k n ≡ es ++ (k, n) ∷ []
-insert_behind table keys [] k n are above = refl
-insert_behind table keys (e ∷ es) k n are above =
-    let below : slice_cmp nat_cmp (string_bytes e.0) (string_bytes k) ≡ Less = above_first (string_bytes e.0 ∷ keys) (node_pairs table es) (string_bytes k) are.1.1 above in
-    let greater : string_cmp k e.0 ≡ Greater = nat_list_cmp_total.antisymm (string_bytes k) (string_bytes e.0) ∙ ap ordering_reverse below in
-    rw greater (ap (λ w. e ∷ w) (insert_behind table (string_bytes e.0 ∷ keys) es k n are.1.1 above))
 
 -- no table changes the keys of a map
 same_keys : (table : List Tree) (keys : List (List ℕ)) (es : List (String Global × Node)) → keys_after keys (node_pairs table es) ≡ keys_after keys (node_pairs [] es)

@@ -1,4 +1,5 @@
 -- What each function ensures, where that is longer than a line.
+pub mod Ascending
 pub mod Heads
 pub mod Lines
 pub mod Paths

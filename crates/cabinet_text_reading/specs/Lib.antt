@@ -1,3 +1,4 @@
+pub mod Ascending
 pub mod Calls
 pub mod Causes
 pub mod Heads
@@ -5,6 +6,7 @@ pub mod Kept
 pub mod Lines
 pub mod Parts
 pub mod Reading
+pub mod Seen
 pub mod Told
 pub mod View
 pub mod Wholes

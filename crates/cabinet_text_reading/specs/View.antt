@@ -21,13 +21,13 @@ use Rattle.cabinet_text_reading.specs.declared.stack.due.Next.{Next}
 use Rattle.cabinet_text_reading.specs.declared.stack.due.Next.TheVariants as next
 
 abbrev pub kind_of : Pairs → MapKind
-kind_of (pairs.Ordered m) = ordered
-kind_of (pairs.Hashed m) = hashed
+kind_of (pairs.Ordered ps) = ordered
+kind_of (pairs.Hashed ps) = hashed
 kind_of (pairs.Kept ps) = kept
 
 abbrev pub entries_of : Pairs → List (String Global × Node)
-entries_of (pairs.Ordered m) = m.entries
-entries_of (pairs.Hashed m) = m.entries
+entries_of (pairs.Ordered ps) = ps
+entries_of (pairs.Hashed ps) = ps
 entries_of (pairs.Kept ps) = ps
 
 -- a key of a map that has these pairs, whose keys no table changes
@@ -35,18 +35,18 @@ abbrev pub key_due : Pairs → spec_due.Due
 key_due ps = spec_due.a_key (kind_of ps) (spec.keys_after [] (node_pairs [] (entries_of ps)))
 
 abbrev pub keyed_kind : Keyed → MapKind
-keyed_kind (keyed.Ordered m k) = ordered
-keyed_kind (keyed.Hashed m k) = hashed
+keyed_kind (keyed.Ordered ps) = ordered
+keyed_kind (keyed.Hashed ps) = hashed
 keyed_kind (keyed.Kept ps) = kept
 
 abbrev pub keyed_entries : Keyed → List (String Global × Node)
-keyed_entries (keyed.Ordered m k) = m.entries
-keyed_entries (keyed.Hashed m k) = m.entries
+keyed_entries (keyed.Ordered ps) = ps.0
+keyed_entries (keyed.Hashed ps) = ps.0
 keyed_entries (keyed.Kept ps) = ps.0
 
 abbrev pub key_of : Keyed → String Global
-key_of (keyed.Ordered m k) = k
-key_of (keyed.Hashed m k) = k
+key_of (keyed.Ordered ps) = ps.1
+key_of (keyed.Hashed ps) = ps.1
 key_of (keyed.Kept ps) = ps.1
 
 abbrev pub frame_of : List Tree → Frame → spec.Frame

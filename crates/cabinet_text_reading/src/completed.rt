@@ -8,15 +8,15 @@ ghost use Rattle.cabinet_text_reading.specs.Wholes.{WalksFrame, WalksStack, Walk
 use crate::stack::{Frame, Keyed};
 use crate::wholes::Wholes;
 use cabinet_text_grammar::Cause;
-use cabinet_text_nodes::{Node, walk_node, walk_nodes, walk_pairs, walk_values};
+use cabinet_text_nodes::{Node, walk_node, walk_nodes, walk_pairs};
 
 /// Walks the nodes of a map's pairs before a key.
 fn walk_keyed(keyed: &Keyed<'_>, wholes: &[Node], next: u64) -> Option<u64>
     ensures { WalksNodes wholes.now (map (λ p. p.1) (keyed_entries keyed.now)) next result }
 {
     match keyed {
-        Keyed::Ordered(values, _) => walk_values(values, wholes, next),
-        Keyed::Hashed(values, _) => walk_values(values, wholes, next),
+        Keyed::Ordered(keyed) => keyed.walk(wholes, next),
+        Keyed::Hashed(keyed) => keyed.walk(wholes, next),
         Keyed::Kept(kept) => walk_pairs(kept.pairs(), wholes, next),
     }
 }
@@ -56,10 +56,14 @@ fn walk_root(stack: &[Frame<'_>], wholes: &[Node], number: Option<u64>) -> Optio
 }
 
 /// Returns whether the wholes of a root are those of `wholes`, in their order. The root is that of the containers of
-/// `stack`, completed by a node: the whole of this number, or a node without wholes.
+/// `stack`, completed by a node: the whole of this number, or a node without wholes. Where there are no wholes no node is
+/// visited.
 fn completes_in_order(wholes: &[Node], stack: &[Frame<'_>], number: Option<u64>) -> bool
     ensures { TellsRootOrder wholes.now stack.now number result }
 {
+    if wholes.is_empty() && number.is_none() {
+        return true;
+    }
     match walk_root(stack, wholes, number) {
         Some(complete) => complete == wholes.len() as u64,
         None => false,

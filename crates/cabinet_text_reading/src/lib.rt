@@ -6,7 +6,8 @@ mod stack;
 
 pub use lines::read_line;
 pub use stack::{
-    Due, Frame, KeptKeyed, KeptPairs, Keyed, Next, OpenMap, Pairs, cmp_escaped, take_head, take_key,
+    AscendingKeyed, AscendingPairs, Due, Frame, KeptKeyed, KeptPairs, Keyed, Next, OpenMap, Pairs,
+    cmp_escaped, take_head, take_key,
 };
 
 mod completed;

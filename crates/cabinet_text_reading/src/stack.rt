@@ -8,8 +8,11 @@ mod kept;
 mod key;
 mod keyed;
 mod pairs;
+mod seen;
+mod store;
 mod taking;
 
+pub use ascending::{AscendingKeyed, AscendingPairs};
 pub(crate) use completing::{all_lack_one, completes};
 pub use due::{Due, Next};
 pub use frame::{Frame, OpenMap};

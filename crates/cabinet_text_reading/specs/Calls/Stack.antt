@@ -1,20 +1,16 @@
-use Rattle.std.specs.Prelude.{◌≡◌, ℕ, ◌++◌, ◌∷◌, [], List, Bool, Option, Result, String, Vec, string_bytes, IfOk, MatchOption}
+use Rattle.std.specs.Prelude.{◌≡◌, ℕ, ◌++◌, ◌∷◌, [], List, Bool, Result, Vec, string_bytes, IfOk}
 use Rattle.std.specs.Bool.{Decides}
 use Rattle.std.specs.declared.alloc.Global.{Global}
 use Rattle.cabinet_text_grammar.specs.Due.{AdmitsHead, Admits}
-use Rattle.cabinet_text_grammar.specs.Frame.{AreOpen, keys_after}
+use Rattle.cabinet_text_grammar.specs.Frame.{AreOpen}
 use Rattle.cabinet_text_grammar.specs.Item.{Item, key_item}
-use Rattle.cabinet_text_grammar.specs.Keys.{MayFollow, ordered}
 use Rattle.cabinet_text_grammar.specs.Machine.{going, complete, plug, step}
 use Rattle.cabinet_text_grammar.specs.Spelling.{escaped}
-use Rattle.cabinet_text_grammar.specs.Tree.{Tree, ArePairs, map}
-use Rattle.cabinet_text_grammar.specs.declared.cause.Cause.{Cause}
-use Rattle.cabinet_text_grammar.specs.declared.cause.Cause.TheVariants.{KeyOrder}
+use Rattle.cabinet_text_grammar.specs.Tree.{Tree, map}
 use Rattle.cabinet_text_nodes.specs.View.{node_tree, node_pairs, item_of}
 use Rattle.cabinet_text_nodes.specs.declared.head.Head.{Head}
 use Rattle.cabinet_text_nodes.specs.declared.node.Node.{Node}
-use Rattle.cabinet_text_reading.specs.Told.{IsKeyAfter}
-use Rattle.cabinet_text_reading.specs.View.{kind_of, entries_of, key_due, keyed_kind, keyed_entries, key_of, stack_of, inside_map, state_of}
+use Rattle.cabinet_text_reading.specs.View.{kind_of, entries_of, key_due, keyed_entries, key_of, stack_of, inside_map, state_of}
 use Rattle.cabinet_text_reading.specs.declared.stack.due.Next.{Next}
 use Rattle.cabinet_text_reading.specs.declared.stack.frame.Frame.{Frame}
 use Rattle.cabinet_text_reading.specs.declared.stack.frame.OpenMap.{OpenMap}
@@ -23,21 +19,13 @@ use Rattle.cabinet_text_reading.specs.declared.stack.pairs.Pairs.{Pairs}
 
 -- ---- pairs
 
--- the fault of a key after those of pairs whose keys ascend, unless it may follow them
-abbrev pub FindsOrderFault : (pairs : List (String Global × Node)) (argument : List ℕ) → Option Cause → Type 0
-FindsOrderFault pairs argument result =
-    MatchOption result (IsKeyAfter ordered pairs argument) (λ cause. (cause ≡ KeyOrder) × (IsKeyAfter ordered pairs argument → ⊥))
-
 -- the key that expects a node is allowed after those of some pairs
 abbrev pub AllowsKey : Pairs → Keyed → Type 0
 AllowsKey ps keyed = Admits (key_due ps) (key_item (string_bytes (key_of keyed)))
 
--- where the keys are allowed after one another, the key and its node are one more pair after the others
+-- the key and its node are one more pair after the others
 abbrev pub AddsPair : {E : Type 0} → Keyed → Node → Result Pairs E → Type 0
-AddsPair keyed node result =
-    (table : List Tree) → ArePairs (keyed_kind keyed) [] (node_pairs table (keyed_entries keyed))
-    → MayFollow (keyed_kind keyed) (keys_after [] (node_pairs table (keyed_entries keyed))) (string_bytes (key_of keyed))
-    → IfOk result (λ pairs. entries_of pairs ≡ keyed_entries keyed ++ (key_of keyed, node) ∷ [])
+AddsPair keyed node result = IfOk result (λ pairs. entries_of pairs ≡ keyed_entries keyed ++ (key_of keyed, node) ∷ [])
 
 -- the node is the map of exactly these pairs
 abbrev pub IsMapOf : Pairs → Node → Type 0

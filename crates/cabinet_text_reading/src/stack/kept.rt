@@ -1,10 +1,7 @@
 //! The pairs of a kept map, among which a key is found by its escaped form.
 ghost use Rattle.std.specs.Prelude.{◌≡◌, ℕ, ◌||◌, List, [], ◌∷◌, ◌++◌, length, IfOk, IfErr, String, string_bytes};
 ghost use Rattle.std.specs.declared.alloc.Global.{Global};
-ghost use Rattle.std.specs.BTreeSet.{contains_by};
-ghost use Rattle.std.specs.Ordering.{nat_cmp};
 ghost use Rattle.std.specs.Str.{bytes_eq};
-ghost use Rattle.std.specs.Cmp.Lexicographic.{slice_cmp};
 ghost use Rattle.cabinet_text_bytes.specs.Words.{IsEscaped};
 ghost use Rattle.cabinet_text_grammar.specs.Keys.{kept};
 ghost use Rattle.cabinet_text_grammar.specs.Spelling.{escaped};
@@ -13,20 +10,21 @@ ghost use Rattle.cabinet_text_nodes.specs.declared.node.Node.{Node};
 ghost use Rattle.cabinet_text_nodes.specs.contracts.node.Node as node;
 ghost use Rattle.std.specs.Coded.{codes};
 ghost use Rattle.cabinet_text_reading.specs.Kept.{has_escaped};
+ghost use Rattle.cabinet_text_reading.specs.Seen.{AreInOrder, has_key, seen_keys};
 ghost use Rattle.cabinet_text_reading.specs.Told.{IsKeyAfter, RefusesKey};
 
+use crate::stack::seen::SeenKeys;
 use cabinet_text_bytes::unescape_text;
 use cabinet_text_grammar::Cause;
 use cabinet_text_nodes::Node;
 use std::alloc::{AllocError, Global};
-use std::collections::BTreeSet;
 use std::marker::Model;
 
 /// The pairs of a kept map, in the order in which they were added.
 #[derive(Drop)]
 pub struct KeptPairs<'a> {
     pairs: Vec<(String, Node)>,
-    seen: BTreeSet<&'a [u8]>,
+    seen: SeenKeys<'a>,
 }
 
 impl<'a> Model for KeptPairs<'a> {
@@ -36,14 +34,14 @@ impl<'a> Model for KeptPairs<'a> {
 
     ghost view = { λ a. a.pairs.items };
 
-    ghost invariant = { λ a. (bytes : List ℕ) → contains_by (λ k. slice_cmp nat_cmp bytes k.now) a.seen ≡ has_escaped bytes a.pairs.items };
+    ghost invariant = { λ a. AreInOrder a.seen × ((bytes : List ℕ) → has_key bytes (seen_keys a.seen) ≡ has_escaped bytes a.pairs.items) };
 }
 
 /// The pairs of a kept map, and the key of the next pair.
 #[derive(Drop)]
 pub struct KeptKeyed<'a> {
     pairs: Vec<(String, Node)>,
-    seen: BTreeSet<&'a [u8]>,
+    seen: SeenKeys<'a>,
     key: String,
 }
 
@@ -54,7 +52,7 @@ impl<'a> Model for KeptKeyed<'a> {
 
     ghost view = { λ a. (a.pairs.items, a.key) };
 
-    ghost invariant = { λ a. (bytes : List ℕ) → contains_by (λ k. slice_cmp nat_cmp bytes k.now) a.seen ≡ (bytes_eq bytes (escaped (string_bytes a.key)) || has_escaped bytes a.pairs.items) };
+    ghost invariant = { λ a. AreInOrder a.seen × ((bytes : List ℕ) → has_key bytes (seen_keys a.seen) ≡ (bytes_eq bytes (escaped (string_bytes a.key)) || has_escaped bytes a.pairs.items)) };
 }
 
 impl<'a> KeptPairs<'a> {
@@ -64,7 +62,7 @@ impl<'a> KeptPairs<'a> {
     {
         KeptPairs {
             pairs: Vec::new(alloc),
-            seen: BTreeSet::new(alloc),
+            seen: SeenKeys::new(alloc),
         }
     }
 
@@ -83,12 +81,12 @@ impl<'a> KeptPairs<'a> {
         ensures after { IfOk result (λ keyed. IsKeyAfter kept self.entry argument.now) }
         ensures fault { IfErr result (RefusesKey kept KeyRepeated self.entry argument.now) }
     {
-        let KeptPairs { pairs, mut seen } = self;
-        match seen.insert(argument) {
-            Ok(true) => {}
-            Ok(false) => return Err(Cause::KeyRepeated),
+        let KeptPairs { pairs, seen } = self;
+        let seen = match seen.with_key(alloc, argument) {
+            Ok(Some(seen)) => seen,
+            Ok(None) => return Err(Cause::KeyRepeated),
             Err(_) => return Err(Cause::OutOfMemory),
-        }
+        };
         match unescape_text(alloc, argument) {
             Ok(key) => Ok(KeptKeyed { pairs, seen, key }),
             Err(_) => Err(Cause::OutOfMemory),

@@ -3,17 +3,17 @@ ghost use Rattle.std.specs.Prelude.{length, ◌≡◌, IfOk};
 ghost use Rattle.cabinet_text_reading.specs.Calls.Stack.{AddsPair};
 ghost use Rattle.cabinet_text_reading.specs.View.{kind_of, keyed_kind, keyed_entries};
 
+use crate::stack::ascending::AscendingKeyed;
 use crate::stack::kept::KeptKeyed;
 use crate::stack::pairs::Pairs;
 use cabinet_text_nodes::Node;
 use std::alloc::AllocError;
-use std::collections::BTreeMap;
 
 /// The pairs of a map, and a key that expects its node.
 #[derive(Drop)]
 pub enum Keyed<'a> {
-    Ordered(BTreeMap<String, Node>, String),
-    Hashed(BTreeMap<String, Node>, String),
+    Ordered(AscendingKeyed),
+    Hashed(AscendingKeyed),
     Kept(KeptKeyed<'a>),
 }
 
@@ -23,8 +23,8 @@ impl<'a> Keyed<'a> {
         ensures { result ≡ length (keyed_entries self.now) }
     {
         match self {
-            Keyed::Ordered(pairs, _) => pairs.len(),
-            Keyed::Hashed(pairs, _) => pairs.len(),
+            Keyed::Ordered(keyed) => keyed.len(),
+            Keyed::Hashed(keyed) => keyed.len(),
             Keyed::Kept(keyed) => keyed.len(),
         }
     }
@@ -35,14 +35,8 @@ impl<'a> Keyed<'a> {
         ensures pairs { AddsPair self.entry node result }
     {
         match self {
-            Keyed::Ordered(mut pairs, key) => {
-                pairs.insert(key, node)?;
-                Ok(Pairs::Ordered(pairs))
-            }
-            Keyed::Hashed(mut pairs, key) => {
-                pairs.insert(key, node)?;
-                Ok(Pairs::Hashed(pairs))
-            }
+            Keyed::Ordered(keyed) => Ok(Pairs::Ordered(keyed.with_node(node)?)),
+            Keyed::Hashed(keyed) => Ok(Pairs::Hashed(keyed.with_node(node)?)),
             Keyed::Kept(keyed) => Ok(Pairs::Kept(keyed.with_node(node)?)),
         }
     }

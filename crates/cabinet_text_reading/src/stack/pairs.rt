@@ -1,5 +1,5 @@
 //! The pairs of a map up to now.
-ghost use Rattle.std.specs.Prelude.{◌≡◌, Some, length, IfOk, IfErr, string_bytes};
+ghost use Rattle.std.specs.Prelude.{◌≡◌, ◌≢◌, [], Some, length, IfOk, IfErr, OnErr, string_bytes};
 ghost use Rattle.cabinet_text_bytes.specs.Words.{IsEscaped};
 ghost use Rattle.cabinet_text_grammar.specs.Spelling.{escaped};
 ghost use Rattle.cabinet_text_reading.specs.Causes.{IsFaultAt};
@@ -7,19 +7,18 @@ ghost use Rattle.cabinet_text_reading.specs.Calls.Stack.{AllowsKey, IsMapOf};
 ghost use Rattle.cabinet_text_reading.specs.Told.{key_line};
 ghost use Rattle.cabinet_text_reading.specs.View.{kind_of, entries_of, key_due, keyed_kind, keyed_entries, key_of};
 
-use crate::stack::ascending::key_behind;
+use crate::stack::ascending::AscendingPairs;
 use crate::stack::kept::KeptPairs;
 use crate::stack::keyed::Keyed;
 use cabinet_text_grammar::Cause;
 use cabinet_text_nodes::Node;
-use std::alloc::Global;
-use std::collections::BTreeMap;
+use std::alloc::{AllocError, Global};
 
 /// The pairs of a map that expects a key.
 #[derive(Drop)]
 pub enum Pairs<'a> {
-    Ordered(BTreeMap<String, Node>),
-    Hashed(BTreeMap<String, Node>),
+    Ordered(AscendingPairs),
+    Hashed(AscendingPairs),
     Kept(KeptPairs<'a>),
 }
 
@@ -45,26 +44,21 @@ impl<'a> Pairs<'a> {
         ensures fault { IfErr result (IsFaultAt (key_due self.entry) (Some (key_line argument.now))) }
     {
         match self {
-            Pairs::Ordered(pairs) => {
-                let key = key_behind(alloc, &pairs, argument)?;
-                Ok(Keyed::Ordered(pairs, key))
-            }
-            Pairs::Hashed(pairs) => {
-                let key = key_behind(alloc, &pairs, argument)?;
-                Ok(Keyed::Hashed(pairs, key))
-            }
+            Pairs::Ordered(pairs) => Ok(Keyed::Ordered(pairs.with_key(alloc, argument)?)),
+            Pairs::Hashed(pairs) => Ok(Keyed::Hashed(pairs.with_key(alloc, argument)?)),
             Pairs::Kept(pairs) => Ok(Keyed::Kept(pairs.with_key(alloc, argument)?)),
         }
     }
 
-    /// Returns the map that has exactly these pairs.
-    pub fn into_node(self) -> Node
-        ensures { IsMapOf self.entry result }
+    /// Returns the map that has exactly these pairs. No pairs take no memory.
+    pub fn into_node(self, alloc: Global) -> Result<Node, AllocError>
+        ensures node { IfOk result (IsMapOf self.entry) }
+        ensures memory { OnErr result (entries_of self.entry ≢ []) }
     {
         match self {
-            Pairs::Ordered(pairs) => Node::Ordered(pairs),
-            Pairs::Hashed(pairs) => Node::Hashed(pairs),
-            Pairs::Kept(pairs) => Node::Kept(pairs.into_pairs()),
+            Pairs::Ordered(pairs) => Ok(Node::Ordered(pairs.into_map(alloc)?)),
+            Pairs::Hashed(pairs) => Ok(Node::Hashed(pairs.into_map(alloc)?)),
+            Pairs::Kept(pairs) => Ok(Node::Kept(pairs.into_pairs())),
         }
     }
 }

@@ -10,6 +10,7 @@ ghost use Rattle.cabinet_text_reading.specs.Calls.Stack.{PutsIn, TakesUnder, Tak
 ghost use Rattle.cabinet_text_reading.specs.Told.{key_line};
 ghost use Rattle.cabinet_text_reading.specs.View.{kind_of, entries_of, key_due};
 
+use crate::stack::ascending::AscendingPairs;
 use crate::stack::due::{Due, Next};
 use crate::stack::frame::{Frame, OpenMap};
 use crate::stack::kept::KeptPairs;
@@ -17,7 +18,6 @@ use crate::stack::pairs::Pairs;
 use cabinet_text_grammar::Cause;
 use cabinet_text_nodes::{Head, Leaf, Node};
 use std::alloc::{AllocError, Global};
-use std::collections::BTreeMap;
 
 /// Puts a complete node into the innermost container. A list that stays open after it is changed in place by `put_in`.
 /// Here each container is taken from the stack, and a container that is full is a complete node itself.
@@ -46,7 +46,7 @@ fn close_with<'a>(
             Frame::Value { count, pairs } => {
                 let pairs = pairs.with_node(node)?;
                 if pairs.len() as u64 == count {
-                    node = pairs.into_node();
+                    node = pairs.into_node(alloc)?;
                 } else {
                     return Ok(Next::Due(Due::Key(OpenMap { count, pairs })));
                 }
@@ -95,8 +95,14 @@ pub fn take_head<'a>(
         Head::None => put_in(alloc, Node::Maybe(None), stack),
         Head::Some => open_option(stack),
         Head::List(count) => open_list(alloc, count, stack),
-        Head::Ordered(count) => open_map(alloc, count, Pairs::Ordered(BTreeMap::new(alloc)), stack),
-        Head::Hashed(count) => open_map(alloc, count, Pairs::Hashed(BTreeMap::new(alloc)), stack),
+        Head::Ordered(count) => {
+            let pairs = AscendingPairs::new(alloc, count);
+            open_map(alloc, count, Pairs::Ordered(pairs), stack)
+        }
+        Head::Hashed(count) => {
+            let pairs = AscendingPairs::new(alloc, count);
+            open_map(alloc, count, Pairs::Hashed(pairs), stack)
+        }
         Head::Kept(count) => open_map(alloc, count, Pairs::Kept(KeptPairs::new(alloc)), stack),
         Head::Whole(number) => put_in(alloc, Node::Whole(number), stack),
     }
@@ -139,7 +145,7 @@ fn open_map<'a>(
     ensures memory { OnErr result ((count ≡ 0) × (0 < vec_len stack.old)) }
 {
     if count == 0 {
-        put_in(alloc, pairs.into_node(), stack)
+        put_in(alloc, pairs.into_node(alloc)?, stack)
     } else {
         Ok(Next::Due(Due::Key(OpenMap { count, pairs })))
     }

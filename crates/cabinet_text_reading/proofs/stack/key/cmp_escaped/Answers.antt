@@ -5,6 +5,9 @@ use Rattle.std.specs.Cmp.Lexicographic.{slice_cmp}
 use Rattle.cabinet_text_reading.proofs.Compared.{first_of, no_first, firsts_decide, key_shorter, both_end, text_shorter}
 use Rattle.cabinet_text_reading.proofs.stack.key.cmp_escaped.Goals as goal
 
+pub returns-then-is_own_text : goal.returns-then-is_own_text
+returns-then-is_own_text c t e = c.cmp.ensures ∙ ap (λ s. slice_cmp nat_cmp s c.args.key.now) (c.if-is_own_text.ensures t e)
+
 pub returns-in_default-split_first : goal.returns-in_default-split_first
 returns-in_default-split_first c t e =
     let i = c.loop-byte.invariant t e in

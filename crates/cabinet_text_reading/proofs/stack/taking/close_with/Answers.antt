@@ -49,8 +49,8 @@ loop-frame-preserved c table around opens =
     let pairs = c.in_ok-pairs-in-Value.pairs in
     let here = opened table c.loop-frame.stack.items outer c.in-Some.frame (frame.Value c.in-Value.count old) c.in-Some.ensures.items c.in-Value.is in
     let are = subst (AreOpen table around) here i.1 in
-    let more = c.in_ok-pairs-in-Value.ensures.pairs table are.0.0.2 are.0.1.1 in (
-      ap (λ t. plug t (stack_of table outer)) (c.into_node-node.ensures table ∙ ap (λ kind. tree.map kind (node_pairs table (entries_of pairs))) c.in_ok-pairs-in-Value.ensures.kind) ∙ pairs_full table (keyed_kind old) (keyed_entries old) (entries_of pairs) (key_of old) c.loop-frame.node c.in-Value.count (stack_of table outer) more (sym c.len-in-Value.ensures ∙ c.if-len-count-2.true) ∙ ap (plug (node_tree table c.loop-frame.node)) (sym here) ∙ i.0,
+    let more = c.in_ok-pairs-in-Value.ensures.pairs in (
+      ap (λ t. plug t (stack_of table outer)) (c.in_ok-node-in-Value.ensures.node table ∙ ap (λ kind. tree.map kind (node_pairs table (entries_of pairs))) c.in_ok-pairs-in-Value.ensures.kind) ∙ pairs_full table (keyed_kind old) (keyed_entries old) (entries_of pairs) (key_of old) c.loop-frame.node c.in-Value.count (stack_of table outer) more (sym c.len-in-Value.ensures ∙ c.if-len-count-2.true) ∙ ap (plug (node_tree table c.loop-frame.node)) (sym here) ∙ i.0,
       are.2,
     )
 
@@ -62,7 +62,7 @@ returns-else-len-count-2 c table around opens =
     let pairs = c.in_ok-pairs-in-Value.pairs in
     let here = opened table c.loop-frame.stack.items outer c.in-Some.frame (frame.Value c.in-Value.count old) c.in-Some.ensures.items c.in-Value.is in
     let are = subst (AreOpen table around) here i.1 in
-    let more = c.in_ok-pairs-in-Value.ensures.pairs table are.0.0.2 are.0.1.1 in
+    let more = c.in_ok-pairs-in-Value.ensures.pairs in
     ap (λ kind. going (spec.at_key kind c.in-Value.count (node_pairs table (entries_of pairs)) ∷ stack_of table outer)) c.in_ok-pairs-in-Value.ensures.kind
     ∙ pairs_more table (keyed_kind old) (keyed_entries old) (entries_of pairs) (key_of old) c.loop-frame.node c.in-Value.count (stack_of table outer) more (λ e. c.if-len-count-2.false (c.len-in-Value.ensures ∙ e))
     ∙ ap (plug (node_tree table c.loop-frame.node)) (sym here)
