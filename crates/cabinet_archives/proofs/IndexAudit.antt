@@ -2,6 +2,7 @@
 use Rattle.std.proofs.Common.{◌≡◌, ℕ, zero, suc, ◌+◌, ◌^◌, ◌<◌, ◌≤◌, ◌==◌, Bool, Bor, true, false, List, [], ◌∷◌, ◌++◌, length, drop, map, slice_index, Option, MatchOption, Result, Ok, Err, refl, sym, ap, subst, ◌∙◌, arith}
 use Rattle.std.specs.Prelude.{⊤, slice_index_or}
 use Rattle.std.specs.List.{flat_map}
+use Rattle.std.proofs.lemmas.List.{length-map}
 use Rattle.archive_shape_layout.specs.Bytes.{word_at}
 use Rattle.archive_shape_layout.specs.Shape.{size_of}
 use Rattle.archive_shape_layout.specs.Shape.Shape.{text}
@@ -18,6 +19,7 @@ use Rattle.cabinet_documents.specs.Audit as audit
 use Rattle.cabinet_documents.specs.Audit.{unless, tag_faults, search_faults, kept_faults}
 use Rattle.cabinet_documents.specs.Table.{Slot, Table, found, gives, kept_at, numbered, table_of}
 use Rattle.cabinet_documents.specs.Walk.{Stop, Walks}
+use Rattle.cabinet_documents.proofs.FoundTags.{tags_are_found}
 use Rattle.archive_index.specs.Lookups.{AnswersEntry}
 use Rattle.archive_index.specs.Maps.{IndexMap, IsMapAt, count_of}
 use Rattle.cabinet_archives.specs.declared.opening.refusal.OpenRefusal.{OpenRefusal}
@@ -26,7 +28,7 @@ use Rattle.cabinet_archives.specs.Keyed.{SaysKey, knows_pairs}
 use Rattle.cabinet_archives.specs.Refused.{refusal_of}
 use Rattle.cabinet_archives.specs.Sound.{Reports}
 use Rattle.cabinet_archives.proofs.Auditing.{refused_first}
-use Rattle.cabinet_archives.proofs.IndexLookups.{position, key_texts, key_table, key_count, key_is, key_at, number_at, full_number}
+use Rattle.cabinet_archives.proofs.IndexLookups.{position, key_texts, key_table, key_count, key_is, key_at, number_at, full_number, entry_there}
 use Rattle.cabinet_archives.proofs.IndexPairs.{map_of_value, walked_table}
 use Rattle.cabinet_archives.proofs.KeptLeading.{found_is}
 use Rattle.cabinet_archives.proofs.PlacesLeft as places
@@ -54,6 +56,17 @@ module _ (bytes : Bor (List ℕ)) (pos : ℕ) where
 
   pub told_keys : (r : Result (Unit {0}) OpenRefusal) → Told kept_tag_faults (Ok tt) → Told kept_search_faults r → Told kept_faults r
   told_keys r tags keys depth v walk h = let t = table_of kept_at bytes.now pos v in subst (λ us. Reports r (us ++ kept_search_faults t)) (sym (tags depth v walk h)) (keys depth v walk h)
+
+  -- where each key is found, each control is right
+  pub told_found : HasValue index_shape knows_pairs bytes.now pos → Told kept_search_faults (Ok tt) → Told kept_faults (Ok tt)
+  told_found has keys depth v walk h =
+      let m = map_of_value bytes.now pos has.value has.held in
+      let t = key_table bytes.now m.map in
+      let same = walked_table bytes.now m.stands h in
+      let none : kept_search_faults t ≡ [] = subst (λ x. kept_search_faults x ≡ []) same (keys depth v walk h) in
+      let few = length-map (full_places m.map.buckets) (slot_of (number_at bytes.now m.map) (key_at bytes.now m.map)) in
+      let tags = tags_are_found t (count_of m.map) (omega (arith, few)) (λ i less. (record { number = i; key = slice_index_or (key_texts bytes.now m.map) i [] }, entry_there bytes.now m.map i less, refl)) none in
+      subst (λ x. kept_faults x ≡ []) (sym same) (ap (λ us. us ++ kept_search_faults t) tags ∙ none)
 
   -- ---- controls
 

@@ -20,7 +20,7 @@ pub no_right : {A : Type 0} (xs ys : List A) → xs ++ ys ≡ [] → ys ≡ []
 no_right [] ys e = e
 no_right (x ∷ xs) ys e = absurd (cc)
 
-none_each : {X A : Type 0} (f : X → List A) (xs : List X) → flat_map f xs ≡ [] → (x : X) → Contains xs x → f x ≡ []
+pub none_each : {X A : Type 0} (f : X → List A) (xs : List X) → flat_map f xs ≡ [] → (x : X) → Contains xs x → f x ≡ []
 none_each f [] e x c = let a = c.1 in absurd (omega (arith, a))
 none_each f (y ∷ ys) e x (zero, a, is) = subst (λ z. f z ≡ []) is (no_left (f y) (flat_map f ys) e)
 none_each f (y ∷ ys) e x (suc n, a, is) = none_each f ys (no_right (f y) (flat_map f ys) e) x (n, omega (arith, a), is)
@@ -51,28 +51,28 @@ among test (x ∷ xs) p e = any_by p x p (find test xs) xs (test x) e (among tes
 
 -- ---- faults
 
-no_fault : (b : Bool) (u : Unsound) → unless b u ≡ [] → b ≡ true
+pub no_fault : (b : Bool) (u : Unsound) → unless b u ≡ [] → b ≡ true
 no_fault true u e = refl
 no_fault false u e = absurd (cc)
 
 module _ (t : Table) where
   -- what the look-up of a key gives
-  record Given (e : Entry) : Type 0 where
-    place : ℕ
-    slot : Slot
-    looked : found t e.key ≡ Some place
-    there : slot_at t.slots place ≡ Some slot
-    number : slot.number ≡ e.number
+  pub record Given (e : Entry) : Type 0 where
+    pub place : ℕ
+    pub slot : Slot
+    pub looked : found t e.key ≡ Some place
+    pub there : slot_at t.slots place ≡ Some slot
+    pub number : slot.number ≡ e.number
 
   numbered : (o : Option Slot) (e : Entry) (p : ℕ) → found t e.key ≡ Some p → slot_at t.slots p ≡ o → is_numbered o e.number ≡ true → Given e
   numbered None e p looked there h = absurd (cc)
   numbered (Some s) e p looked there h = record { place = p; slot = s; looked = looked; there = there; number = eqb-true s.number e.number h }
 
-  given : (o : Option ℕ) (e : Entry) → found t e.key ≡ o → gives t o e.number ≡ true → Given e
+  pub given : (o : Option ℕ) (e : Entry) → found t e.key ≡ o → gives t o e.number ≡ true → Given e
   given None e looked h = absurd (cc)
   given (Some p) e looked h = numbered (slot_at t.slots p) e p looked refl h
 
-  key_there : (o : Option Slot) (s : Slot) (k : List ℕ) → o ≡ Some s → has_key o k ≡ true → s.key ≡ k
+  pub key_there : (o : Option Slot) (s : Slot) (k : List ℕ) → o ≡ Some s → has_key o k ≡ true → s.key ≡ k
   key_there None s k e h = absurd (cc)
   key_there (Some r) s k e h = let same : r ≡ s = cc in subst (λ (x : Slot). x.key ≡ k) same (same_keys r.key k h)
 

@@ -101,15 +101,22 @@ fn keys_found<G: Scan>(map: Ref<'_, KeptMap>) -> Result<(), OpenRefusal>
     Ok(())
 }
 
-/// Audits the table of a kept map: first each control, and then that a search for each key finds the key's own entry.
+/// Audits the table of a kept map: a wrong control is reported first, and then a key whose search does not find its own
+/// entry. Where each key is found, the entries have as many places as the table has, each under its key's tag: so
+/// controls are read only where a key is not found.
 pub(crate) fn kept_sound<G: Scan>(map: Ref<'_, KeptMap>) -> Result<(), OpenRefusal>
     requires { HasValue index_shape knows_pairs map.bytes.now map.pos }
     ensures { (depth : ℕ) (v : Value) (walk : List Stop)
         → Walks node_names map.entry.bytes.now depth (at map.entry.pos index_shape) v walk
         → Reports result (kept_faults (table_of kept_at map.entry.bytes.now map.entry.pos v)) }
 {
-    tags_sound(map)?;
-    keys_found::<G>(map)
+    match keys_found::<G>(map) {
+        Ok(()) => Ok(()),
+        Err(lost) => {
+            tags_sound(map)?;
+            Err(lost)
+        }
+    }
 }
 
 /// Returns the node of a key, if the map has the key, and how many strides were searched for it. Reads only the controls
