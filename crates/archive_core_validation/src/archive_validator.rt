@@ -98,4 +98,15 @@ impl ArchiveContext for ArchiveValidator {
         self.end = range.outer;
         Ok(())
     }
+
+    fn claim_bytes(&mut self, pos: usize, size: usize) -> Result<(), Error> {
+        self.check_subtree_ptr(pos, size, 1)?;
+        if let Some(most) = self.most {
+            if most <= self.pushes.len() {
+                return Err(Error::ExceededMaximumSubtreeDepth);
+            }
+        }
+        self.start = pos + size;
+        Ok(())
+    }
 }

@@ -72,6 +72,10 @@ impl<A: ArchiveContext, S: Visited> ArchiveContext for Validator<A, S> {
     fn pop_subtree_range(&mut self, range: PushedRange) -> Result<(), Error> {
         self.archive.pop_subtree_range(range)
     }
+
+    fn claim_bytes(&mut self, pos: usize, size: usize) -> Result<(), Error> {
+        self.archive.claim_bytes(pos, size)
+    }
 }
 
 impl<A: ArchiveContext, S: Visits> SharedContext for Validator<A, S> {

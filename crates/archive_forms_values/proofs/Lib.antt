@@ -1,5 +1,6 @@
 pub mod Accepted
 pub mod Arrays
+pub mod Ascii
 pub mod Checked
 pub mod Chosen
 pub mod Claimed

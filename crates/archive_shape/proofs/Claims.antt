@@ -5,7 +5,8 @@ use Rattle.archive_shape_layout.specs.Content.{Span}
 use Rattle.archive_shape.specs.Range.{Range, InRange}
 use Rattle.archive_shape.specs.Questions.{FirstUnanswered, claim, out_of_range}
 use Rattle.archive_shape.specs.Questions.FirstUnanswered.{unanswered_here, unanswered_later}
-use Rattle.archive_shape.specs.Kept.{Kept, pushed, popped, started_again}
+use Rattle.archive_shape.specs.Calls.{ClaimsBytes}
+use Rattle.archive_shape.specs.Kept.{Kept, range_of, pushed, popped, started_again}
 use Rattle.archive_shape.specs.declared.checking.context.PushedRange.{PushedRange}
 use Rattle.archive_shape_layout.specs.declared.error.Error.{Error}
 use Rattle.archive_shape_layout.specs.declared.error.Error.TheVariants.{Unaligned, ExceededMaximumSubtreeDepth}
@@ -50,3 +51,8 @@ depth_unanswered k s e within aligned deep is =
 -- a push and its pop
 pub pushed_popped : (k pushing popping : Kept) (r : PushedRange) (pos end : ℕ) → r ≡ record { pos = pos; end = end; outer = k.end } → pushing ≡ pushed k r → popping ≡ popped pushing r k.pushes → popping ≡ started_again k end k.seen
 pushed_popped k pushing popping r pos end saves narrowed again = again ∙ rw (narrowed, saves) refl
+
+-- a claim of bytes is refused
+pub bytes_unclaimed : (k : Kept) (start size : ℕ) (r : Result (Unit {0}) Error) (e : Error) → r ≡ Err e
+    → FirstUnanswered (range_of k) e (claim (record { start = start; size = size; align = 1 })) → ClaimsBytes k start size r k
+bytes_unclaimed k start size r e is first = rw is (first, refl)

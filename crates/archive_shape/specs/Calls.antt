@@ -5,10 +5,11 @@ use Rattle.archive_shape_layout.specs.Shape.{Pointee, element_align}
 use Rattle.archive_shape_layout.specs.Progress.{Progress, IsSame, Starts}
 use Rattle.archive_shape_layout.specs.declared.error.Error.{Error}
 use Rattle.archive_shape_layout.specs.declared.error.Error.TheVariants as error
-use Rattle.archive_shape.specs.Kept.{Kept, StartsShared, RefusesShared, pushed, popped}
+use Rattle.archive_shape.specs.Kept.{Kept, StartsShared, RefusesShared, pushed, popped, range_of, started_again}
 use Rattle.archive_shape.specs.Offsets.{difference, Leads}
 use Rattle.archive_shape.specs.Pointees.{extent_of}
 use Rattle.archive_shape.specs.Pooling.{StartsPooling}
+use Rattle.archive_shape.specs.Questions.{AreAnswered, FirstUnanswered, claim}
 use Rattle.archive_shape.specs.Sharing.{progress_of}
 use Rattle.archive_shape.specs.declared.checking.context.PushedRange.{PushedRange}
 use Rattle.archive_shape.specs.declared.checking.context.ValidationState.{ValidationState}
@@ -32,6 +33,15 @@ RefusesOther old range result =
 abbrev pub PopsLast : Kept → PushedRange → Result (Unit {0}) Error → Kept → Type 0
 PopsLast old range result new =
     (rest : List PushedRange) → old.pushes ≡ rest ++ range ∷ [] → (result ≡ Ok tt) × (new ≡ popped old range rest)
+
+-- bytes are claimed with nothing inside them, and the range starts again after them; or the first question of a claim that is
+-- answered by no is told, and nothing changes then
+abbrev pub ClaimsBytes : Kept → ℕ → ℕ → Result (Unit {0}) Error → Kept → Type 0
+ClaimsBytes old start size result new =
+    let questions = claim (record { start = start; size = size; align = 1 }) in
+    MatchResult result
+    (λ _. AreAnswered (range_of old) questions × (new ≡ started_again old (start + size) old.seen))
+    (λ e. FirstUnanswered (range_of old) e questions × (new ≡ old))
 
 -- a shared position is started, or refused for another pointee or length; what is refused changes nothing
 abbrev pub StartsVisit : Kept → ℕ → Pointee → ℕ → Result ValidationState Error → Kept → Type 0

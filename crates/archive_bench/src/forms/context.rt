@@ -73,4 +73,13 @@ impl ArchiveContext for RangeContext {
         self.end = range.outer;
         Ok(())
     }
+
+    fn claim_bytes(&mut self, pos: usize, size: usize) -> Result<(), Error> {
+        self.check_subtree_ptr(pos, size, 1)?;
+        if self.most <= self.pushes.len() {
+            return Err(Error::ExceededMaximumSubtreeDepth);
+        }
+        self.start = pos + size;
+        Ok(())
+    }
 }

@@ -1,5 +1,5 @@
 //! The hash of a key, which is a fold over its words of eight bytes, and its tag.
-ghost use Rattle.std.specs.Prelude.{◌≡◌, ◌<◌, ◌^◌, drop, slice_index};
+ghost use Rattle.std.specs.Prelude.{◌≡◌, ◌+◌, ◌<◌, ◌≤◌, drop, length};
 ghost use Rattle.std.specs.List.{fold};
 ghost use Rattle.std.specs.Int.{w64, from_le_bytes};
 ghost use Rattle.archive_shape_canonical.specs.Hash.{hash_word, hash_words, text_hash, words_of};
@@ -32,28 +32,36 @@ fn with_word(state: u64, word: u64) -> u64
     (state.rotate_left(5) ^ word).wrapping_mul(MULTIPLIER)
 }
 
-/// Returns the byte at index `at`, or 0 if it is out of bounds.
-fn byte_or_zero(bytes: &[u8], at: usize) -> u8
-    ensures { result ≡ slice_index bytes.now at }
-{
-    if at < bytes.len() { bytes[at] } else { 0 }
-}
-
-/// Returns the word from index `at` on, little endian and padded with zeros.
-fn word_from(bytes: &[u8], at: usize) -> u64
-    requires { at < 2 ^ 63 }
+/// Returns the word from index `at` on, little endian.
+fn whole_word(bytes: &[u8], at: usize) -> u64
+    requires { at + 8 ≤ length bytes.now }
     ensures { result ≡ from_le_bytes w64 (drop at bytes.now) }
 {
     u64::from_le_bytes([
-        byte_or_zero(bytes, at),
-        byte_or_zero(bytes, at + 1),
-        byte_or_zero(bytes, at + 2),
-        byte_or_zero(bytes, at + 3),
-        byte_or_zero(bytes, at + 4),
-        byte_or_zero(bytes, at + 5),
-        byte_or_zero(bytes, at + 6),
-        byte_or_zero(bytes, at + 7),
+        bytes[at],
+        bytes[at + 1],
+        bytes[at + 2],
+        bytes[at + 3],
+        bytes[at + 4],
+        bytes[at + 5],
+        bytes[at + 6],
+        bytes[at + 7],
     ])
+}
+
+/// Returns the word from index `at` on, little endian and padded with zeros.
+fn last_word(bytes: &[u8], at: usize) -> u64
+    requires few { length bytes.now ≤ at + 8 }
+    requires within { at ≤ length bytes.now }
+    ensures { result ≡ from_le_bytes w64 (drop at bytes.now) }
+{
+    let mut word = 0;
+    let mut end = bytes.len();
+    while at < end {
+        end -= 1;
+        word = word << 8 | bytes[end] as u64;
+    }
+    word
 }
 
 /// Returns the hash after all words of some more bytes.
@@ -61,9 +69,13 @@ fn with_bytes(state: u64, bytes: &[u8]) -> u64
     ensures { result ≡ hash_words state (words_of bytes.now) }
 {
     let mut hash = state;
-    let count = bytes.len().div_ceil(8);
-    for i in 0..count {
-        hash = with_word(hash, word_from(bytes, 8 * i));
+    let mut at = 0;
+    while at + 8 <= bytes.len() {
+        hash = with_word(hash, whole_word(bytes, at));
+        at += 8;
+    }
+    if at < bytes.len() {
+        hash = with_word(hash, last_word(bytes, at));
     }
     hash
 }

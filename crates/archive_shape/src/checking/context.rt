@@ -3,7 +3,7 @@ ghost use Rattle.std.specs.Prelude.{◌≡◌, ◌≢◌, ℕ, ◌+◌, ◌%◌,
 ghost use Rattle.archive_shape_layout.specs.RuntimeShape.{pointee_of};
 ghost use Rattle.archive_shape.specs.Range.{InRange};
 ghost use Rattle.archive_shape.specs.Questions.{out_of_range};
-ghost use Rattle.archive_shape.specs.Calls.{PopsLast, Pushes, RefusesOther, StartsVisit};
+ghost use Rattle.archive_shape.specs.Calls.{ClaimsBytes, PopsLast, Pushes, RefusesOther, StartsVisit};
 ghost use Rattle.archive_shape.specs.Kept.{Kept, range_of, FinishesShared};
 
 use archive_shape_layout::{Error, Pointee};
@@ -54,6 +54,11 @@ pub trait ArchiveContext {
         ensures other { RefusesOther (kept self.old) range result }
         ensures last { PopsLast (kept self.old) range result (kept self.new) }
         ensures refused { IfErr result (λ _. kept self.new ≡ kept self.old) };
+
+    /// Claims the bytes `[pos, pos + size)`, inside which nothing else is claimed: the range is that after a push of them
+    /// and its pop. It does not allocate.
+    fn claim_bytes(&mut self, pos: usize, size: usize) -> Result<(), Error>
+        ensures { ClaimsBytes (kept self.old) pos size result (kept self.new) };
 }
 
 /// A context that also keeps the shared positions that were seen.

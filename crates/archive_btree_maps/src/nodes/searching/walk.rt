@@ -125,7 +125,8 @@ fn push_first(stack: &mut Stack, bytes: &[u8], layout: NodeLayout, mut child: Op
     }
 }
 
-/// Passes the next entry and returns it.
+/// Passes the next entry and returns it. It is inlined, since most entries of a walk are passed without another node.
+#[inline(always)]
 pub(crate) fn pass_entry(stack: &mut Stack, bytes: &[u8], layout: NodeLayout) -> Option<EntryAt>
     requires { Stands bytes.now layout stack.old }
     ensures stands { Stands bytes.now layout stack.new }

@@ -1,6 +1,12 @@
-use Rattle.std.proofs.Common.{IsUtf8, sym, subst, arith}
+use Rattle.std.proofs.Common.{IsUtf8, sym, subst, ◌∙◌, arith}
+use Rattle.archive_forms_values.proofs.Ascii.{filled_is_utf8}
 use Rattle.archive_forms_values.proofs.Checked.{inline_checked, inline_refused, short_refused, astray_refused, far_checked}
 use Rattle.archive_forms_values.proofs.text.check.ArchivedStringCheckBytes.check.Goals as goal
+
+pub returns-then-is_short_ascii-clause-exact : goal.returns-then-is_short_ascii-clause-exact
+returns-then-is_short_ascii-clause-exact g c names known =
+    inline_checked names c.args.bytes.now c.args.pos c.own_bytes-own.result.now c.own_bytes-own.ensures.own (c.is_inline.ensures.0 c.if-is_inline.true) _
+    (filled_is_utf8 c.own_bytes-own.result.now (sym c.is_short_ascii.ensures ∙ c.if-is_short_ascii.true))
 
 pub returns-then-is_utf8-clause-exact : goal.returns-then-is_utf8-clause-exact
 returns-then-is_utf8-clause-exact g c names known =
