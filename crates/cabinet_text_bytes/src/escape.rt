@@ -21,11 +21,34 @@ pub fn first_byte(escaped_text: &[u8]) -> Option<(u8, &[u8])>
     }
 }
 
-/// Returns whether each byte is above a space and no backslash. Such a text is the escaped form of itself.
+/// Returns whether a byte is above a space and no backslash.
+fn is_plain_byte(byte: u8) -> bool
+    ensures { result ≡ is_plain_byte byte }
+{
+    (byte > b' ') & (byte != b'\\')
+}
+
+/// Returns whether each byte is plain. Such a text is the escaped form of itself. Eight bytes at a time are tested
+/// without a branch, so that LLVM tests them at once.
 fn is_plain(bytes: &[u8]) -> bool
     ensures { result ≡ list_all is_plain_byte bytes.now }
 {
-    bytes.iter().all(|byte| *byte > b' ' && *byte != b'\\')
+    let mut rest = bytes;
+    while let [a, b, c, d, e, f, g, h, after @ ..] = rest {
+        if !(is_plain_byte(*a)
+            & is_plain_byte(*b)
+            & is_plain_byte(*c)
+            & is_plain_byte(*d)
+            & is_plain_byte(*e)
+            & is_plain_byte(*f)
+            & is_plain_byte(*g)
+            & is_plain_byte(*h))
+        {
+            return false;
+        }
+        rest = after;
+    }
+    rest.iter().all(|byte| is_plain_byte(*byte))
 }
 
 /// Returns the length of the text that bytes are the escaped form of, if there is one.
@@ -71,10 +94,7 @@ fn plain_len(bytes: &[u8]) -> usize
     ensures within { result ≤ length bytes.now }
     ensures plain { (k : ℕ) → k < result → is_plain_byte (slice_index bytes.now k) ≡ true }
 {
-    match bytes
-        .iter()
-        .position(|byte| *byte <= b' ' || *byte == b'\\')
-    {
+    match bytes.iter().position(|byte| !is_plain_byte(*byte)) {
         Some(len) => len,
         None => bytes.len(),
     }
@@ -94,6 +114,10 @@ fn unescape(alloc: Global, argument: &[u8]) -> Result<Option<Vec<u8>>, AllocErro
     ensures memory { OnErr result (argument.now ≢ []) }
 {
     let mut text = Vec::with_capacity(alloc, argument.len())?;
+    if is_plain(argument) {
+        text.extend_from_slice(argument)?;
+        return Ok(Some(text));
+    }
     let mut rest = argument;
     loop {
         let (run, special) = split_plain(rest);

@@ -153,6 +153,7 @@ fn read_option(line: &[u8]) -> Option<Head>
 }
 
 /// Reads a line as a head inside `depth` containers. `depths` are the depths of the complete wholes, by their numbers.
+#[inline(always)]
 pub(crate) fn read_head(
     alloc: Global,
     line: &str,

@@ -6,7 +6,7 @@ ghost use Rattle.cabinet_text_reading.specs.Calls.Lines.{SplitsLine, LacksLine, 
 ghost use Rattle.cabinet_text_reading.specs.Causes.{a_line, next_piece};
 ghost use Rattle.cabinet_text_reading.specs.Lines.{IsLongest};
 
-use cabinet_text_bytes::{after_prefix, unescaped_len};
+use cabinet_text_bytes::{after_prefix, newline_in, unescaped_len};
 use cabinet_text_grammar::Cause;
 use std::marker::Model;
 
@@ -14,7 +14,8 @@ use std::marker::Model;
 fn split_line(text: &str) -> Option<(&str, &str)>
     ensures { SplitsLine text.now result }
 {
-    text.split_once('\n')
+    let end = newline_in(text.as_bytes())?;
+    Some((&text[..end], &text[end + 1..]))
 }
 
 /// The rest of a text after some lines were taken: its longest prefix that is UTF-8, and the bytes after that.

@@ -65,6 +65,7 @@ fn fault_of_head(cause: Cause, wholes: &Wholes<'_>, stack: &[Frame<'_>], lines: 
 }
 
 /// Takes in the line of a node's head. `lines` are the lines of the tree that is read, up to this one.
+#[inline(always)]
 fn take_head_line<'a>(
     alloc: Global,
     line: &str,
@@ -91,6 +92,7 @@ fn take_head_line<'a>(
 }
 
 /// Takes in the line of a key of a map.
+#[inline(always)]
 fn take_key_line<'a>(
     alloc: Global,
     line: &'a str,
@@ -105,7 +107,9 @@ fn take_key_line<'a>(
     take_key(alloc, argument, map, stack)
 }
 
-/// Takes in a line of the kind that is expected.
+/// Takes in a line of the kind that is expected. This function and what it calls are inlined, since a map that is open
+/// is moved in and out of each call otherwise, which takes more instructions than reading the line.
+#[inline(always)]
 fn take_line<'a>(
     alloc: Global,
     line: &'a str,

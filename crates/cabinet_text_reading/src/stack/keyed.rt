@@ -30,6 +30,7 @@ impl<'a> Keyed<'a> {
     }
 
     /// Adds the node of the key, which completes the next pair.
+    #[inline(always)]
     pub fn with_node(self, node: Node) -> Result<Pairs<'a>, AllocError>
         ensures kind { IfOk result (λ pairs. kind_of pairs ≡ keyed_kind self.entry) }
         ensures pairs { AddsPair self.entry node result }

@@ -35,6 +35,7 @@ impl<'a> Pairs<'a> {
     }
 
     /// Adds the key of the next pair, if it is allowed after the others. `argument` is the key's escaped form.
+    #[inline(always)]
     pub fn with_key(self, alloc: Global, argument: &'a [u8]) -> Result<Keyed<'a>, Cause>
         requires { IsEscaped argument.now }
         ensures kind { IfOk result (λ keyed. keyed_kind keyed ≡ kind_of self.entry) }

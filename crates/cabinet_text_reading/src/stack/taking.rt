@@ -21,6 +21,7 @@ use std::alloc::{AllocError, Global};
 
 /// Puts a complete node into the innermost container. A list that stays open after it is changed in place by `put_in`.
 /// Here each container is taken from the stack, and a container that is full is a complete node itself.
+#[inline(always)]
 fn close_with<'a>(
     alloc: Global,
     complete: Node,
@@ -58,6 +59,7 @@ fn close_with<'a>(
 
 /// Puts a complete node into the innermost container. A container that it fills is a complete node itself. Where none is
 /// open no memory is taken.
+#[inline(always)]
 fn put_in<'a>(
     alloc: Global,
     complete: Node,
@@ -79,6 +81,7 @@ fn put_in<'a>(
 }
 
 /// Takes a node's head into the innermost container.
+#[inline(always)]
 pub fn take_head<'a>(
     alloc: Global,
     head: Head,
@@ -152,6 +155,7 @@ fn open_map<'a>(
 }
 
 /// Takes a key into a map. `argument` is the key's escaped form. A node's head is expected next.
+#[inline(always)]
 pub fn take_key<'a>(
     alloc: Global,
     argument: &'a [u8],
