@@ -3,7 +3,7 @@ use Rattle.std.proofs.Common.{◌≡◌, ℕ, ◌<◌, ◌≤◌, Bor, List, Opt
 use Rattle.std.specs.Prelude.{⊤, IsSome}
 use Rattle.archive_shape_layout.specs.Shape.Shape.{text}
 use Rattle.archive_shape.specs.declared.references.refs.Ref.{Ref}
-use Rattle.archive_forms_laws.specs.Text.{HasText}
+use Rattle.archive_forms_laws.specs.Text.{HasText, IsText}
 use Rattle.archive_forms_values.specs.Parts.{HasValue}
 use Rattle.cabinet_documents.specs.Node.{node_shape, KnowsNode}
 use Rattle.archive_index.specs.Lookups.{pair_of}
@@ -34,3 +34,7 @@ module _ (bytes : List ℕ) (pos : ℕ) (has : HasValue index_shape knows_pairs 
 -- an entry is read in the map's bytes
 pub entry_bytes : {K V : Type 0} (bytes : Bor (List ℕ)) (pos : ℕ) → HasValue index_shape knows_pairs bytes.now pos → (i : ℕ) (e : Ref K × Ref V) → OfKept bytes.now pos (λ m. e ≡ pair_of bytes text node_shape m i) → (e.0.bytes ≡ bytes) × (e.1.bytes ≡ bytes)
 entry_bytes bytes pos has i e is = let r = map_of_value bytes.now pos has.value has.held in let same = is r.map r.stands in (ap (λ x. x.0.bytes) same, ap (λ x. x.1.bytes) same)
+
+-- the text at the position of an entry is that of its key
+pub key_stands : (bytes : List ℕ) (pos i at : ℕ) (key : List ℕ) → OfKept bytes pos (λ m. at ≡ position bytes m i) → IsText bytes at key → OfKept bytes pos (λ m. IsText bytes (position bytes m i) key)
+key_stands bytes pos i at key is there m stands = subst (λ n. IsText bytes n key) (is m stands) there

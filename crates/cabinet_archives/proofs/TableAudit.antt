@@ -93,6 +93,13 @@ module _ (bytes : Bor (List ℕ)) (pos : ℕ) where
         let there = subst (λ (x : Full P). IsText x.2.bytes.now x.2.pos key) f.is is_key in
         text_is bytes.now (pair_at bytes.now b f.place) key there
 
+    -- the key stands at its pair in the bytes of the map
+    pub key_there : IsText bytes.now e.2.pos key
+    key_there =
+        let m = places_of_value has in
+        let f = first_of m.buckets m.table in
+        subst (λ (x : Bor (List ℕ)). IsText x.now e.2.pos key) (ap (λ (x : Full P). x.2.bytes) f.is) is_key
+
     control_of : (b : Buckets) (f : First b) → e.1 ≡ slice_index b.controls f.place
     control_of b f = ap (λ (x : Full P). x.1) f.is
 

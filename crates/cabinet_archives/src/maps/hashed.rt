@@ -17,7 +17,7 @@ ghost use Rattle.cabinet_archives.specs.Hashed.{HasBucket, table_shape};
 ghost use Rattle.cabinet_archives.specs.Keyed.{KeyLeads, KeyLeadsNowhere, OfMap, SaysKey, knows_pairs};
 ghost use Rattle.cabinet_archives.specs.Sound.{IsSoundPart, Reports};
 
-use crate::maps::pairs::{Pair, has_key, is_found_at, key_of};
+use crate::maps::pairs::{Pair, has_key, has_key_of, is_found_at, key_of};
 use crate::opening::OpenRefusal;
 use archive_forms_values::{ArchivedString, Entry};
 use archive_hash_maps::walking::search_table;
@@ -47,6 +47,28 @@ fn search<G: Scan>(map: Ref<'_, HashedMap>, hash: u64, key: &str) -> (Option<usi
     search_table::<Pair, G, _>(bytes, map.pos, hash, &accepts)
 }
 
+/// The same search for the key of the pair at `own`, which is not read.
+fn search_own<G: Scan>(
+    map: Ref<'_, HashedMap>,
+    hash: u64,
+    key: &str,
+    own: usize,
+) -> (Option<usize>, usize)
+    requires has { HasValue table_shape knows_pairs map.bytes.now map.pos }
+    requires own { IsText map.bytes.now own key.now }
+    requires hash { hash ≡ text_hash key.now }
+    ensures { (b : Buckets) → IsTableAt map.entry.bytes.now pair_shape map.entry.pos b
+        → LooksUp (SaysKey map.entry.bytes.now key.now) pair_shape b hash result.0 result.1 }
+{
+    let bytes = map.bytes;
+    let accepts = |at: usize| -> bool
+        requires has { HasValue pair_shape knows_pairs bytes.now at }
+        requires own { IsText bytes.now own key.now }
+        ensures { SaysKey bytes.entry.now key.entry.now at result }
+    { has_key_of(bytes, at, own, key) };
+    search_table::<Pair, G, _>(bytes, map.pos, hash, &accepts)
+}
+
 /// Audits the table of a hashed map by ascending place: the control of a key is the tag of its hash, and a search for the
 /// key finds it at its own place.
 pub(crate) fn hashed_sound<G: Scan>(map: Ref<'_, HashedMap>) -> Result<(), OpenRefusal>
@@ -61,7 +83,8 @@ pub(crate) fn hashed_sound<G: Scan>(map: Ref<'_, HashedMap>) -> Result<(), OpenR
         if tag_of(hash) != control {
             return Err(OpenRefusal::WrongTag);
         }
-        if !is_found_at(search::<G>(map, hash, key).0, pair.pos()) {
+        let own = pair.pos();
+        if !is_found_at(search_own::<G>(map, hash, key, own).0, own) {
             return Err(OpenRefusal::NotFound);
         }
     }

@@ -17,7 +17,7 @@ ghost use Rattle.cabinet_archives.specs.Kept.{HasNumbered, OfKept, index_shape, 
 ghost use Rattle.cabinet_archives.specs.Keyed.{KeyLeads, KeyLeadsNowhere, OfMap, SaysKey, knows_pairs};
 ghost use Rattle.cabinet_archives.specs.Sound.{IsSoundPart, Reports};
 
-use crate::maps::pairs::{has_key, is_found_at};
+use crate::maps::pairs::{has_key, has_key_of, is_found_at};
 use crate::opening::OpenRefusal;
 use archive_forms_values::ArchivedString;
 use archive_hash_maps::ArchivedHashTable;
@@ -41,14 +41,15 @@ fn entry_of<'a>(
     KeptMap::get_index(map, index).unwrap()
 }
 
-/// Returns the text of the key of the entry with a number.
-fn key_of<'a>(map: Ref<'a, KeptMap>, index: usize) -> &'a str
+/// Returns the position and the text of the key of the entry with a number.
+fn key_of<'a>(map: Ref<'a, KeptMap>, index: usize) -> (usize, &'a str)
     requires has { HasValue index_shape knows_pairs map.bytes.now map.pos }
     requires within { OfKept map.bytes.now map.pos (λ m. index < count_of m) }
-    ensures { OfKept map.entry.bytes.now map.entry.pos (λ m. IsText map.entry.bytes.now (entry_position text node_shape m index) result.now) }
+    ensures position { OfKept map.entry.bytes.now map.entry.pos (λ m. result.0 ≡ entry_position text node_shape m index) }
+    ensures text { IsText map.entry.bytes.now result.0 result.1.now }
 {
     let (key, _) = entry_of(map, index);
-    ArchivedString::as_str(key)
+    (key.pos(), ArchivedString::as_str(key))
 }
 
 /// Returns the number of the first entry with a key that a search for the key's hash visits, and how many strides were
@@ -68,6 +69,28 @@ fn search<G: Scan>(map: Ref<'_, KeptMap>, hash: u64, key: &str) -> (Option<usize
     search_entries::<ArchivedString, ArchivedNode, G, _>(bytes, map.pos, hash, &accepts)
 }
 
+/// The same search for the key of the entry at `own`, which is not read.
+fn search_own<G: Scan>(
+    map: Ref<'_, KeptMap>,
+    hash: u64,
+    key: &str,
+    own: usize,
+) -> (Option<usize>, usize)
+    requires has { HasValue index_shape knows_pairs map.bytes.now map.pos }
+    requires own { IsText map.bytes.now own key.now }
+    requires hash { hash ≡ text_hash key.now }
+    ensures { OfKept map.entry.bytes.now map.entry.pos (λ m.
+        AnswersEntry map.entry.bytes.now text node_shape m (SaysKey map.entry.bytes.now key.now) (λ i. i) hash result.0 result.1) }
+{
+    let bytes = map.bytes;
+    let accepts = |at: usize| -> bool
+        requires has { HasValue pair_shape knows_pairs bytes.now at }
+        requires own { IsText bytes.now own key.now }
+        ensures { SaysKey bytes.entry.now key.entry.now at result }
+    { has_key_of(bytes, at, own, key) };
+    search_entries::<ArchivedString, ArchivedNode, G, _>(bytes, map.pos, hash, &accepts)
+}
+
 /// Audits the controls of a kept map by ascending place: each is the tag of the hash of the key of the entry whose number
 /// the place has.
 fn tags_sound(map: Ref<'_, KeptMap>) -> Result<(), OpenRefusal>
@@ -77,7 +100,7 @@ fn tags_sound(map: Ref<'_, KeptMap>) -> Result<(), OpenRefusal>
         → Reports result (kept_tag_faults (table_of kept_at map.entry.bytes.now map.entry.pos v)) }
 {
     for (_, control, number) in ArchivedHashTable::full_places(KeptMap::table(map)) {
-        let key = key_of(map, number_at(number.bytes, number.pos()));
+        let (_, key) = key_of(map, number_at(number.bytes, number.pos()));
         if tag_of(hash_text(key)) != control {
             return Err(OpenRefusal::WrongTag);
         }
@@ -93,8 +116,8 @@ fn keys_found<G: Scan>(map: Ref<'_, KeptMap>) -> Result<(), OpenRefusal>
         → Reports result (kept_search_faults (table_of kept_at map.entry.bytes.now map.entry.pos v)) }
 {
     for index in 0..KeptMap::len(map) {
-        let key = key_of(map, index);
-        if !is_found_at(search::<G>(map, hash_text(key), key).0, index) {
+        let (own, key) = key_of(map, index);
+        if !is_found_at(search_own::<G>(map, hash_text(key), key, own).0, index) {
             return Err(OpenRefusal::NotFound);
         }
     }

@@ -28,6 +28,18 @@ pub(crate) fn has_key(bytes: &[u8], at: usize, key: &str) -> bool
     key_of(Ref::new(bytes, at)) == key
 }
 
+/// Returns whether the key of the pair at a position is this one, which the pair at `own` has. That pair is not read.
+pub(crate) fn has_key_of(bytes: &[u8], at: usize, own: usize, key: &str) -> bool
+    requires has { HasValue pair_shape knows_pairs bytes.now at }
+    requires own { IsText bytes.now own key.now }
+    ensures { SaysKey bytes.now key.now at result }
+{
+    if at == own {
+        return true;
+    }
+    has_key(bytes, at, key)
+}
+
 /// Returns whether a look-up found this position or number.
 pub(crate) fn is_found_at(found: Option<usize>, expected: usize) -> bool
     ensures { MatchOption found (result ≡ false) (λ at. result ≡ (at == expected)) }

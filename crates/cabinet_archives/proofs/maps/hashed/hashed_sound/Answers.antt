@@ -1,13 +1,14 @@
 use Rattle.std.proofs.Common.{◌≡◌, ◌==◌, ℕ, false, List, Bor, MatchOption, refl, sym, subst, ◌∙◌}
 use Rattle.std.specs.Prelude.{All}
 use Rattle.std.proofs.lemmas.List.Elements.{All-head, All-tail}
+use Rattle.archive_forms_laws.specs.Text.{IsText}
 use Rattle.archive_hash_maps.specs.Tables.{IsTableAt}
 use Rattle.cabinet_documents.specs.Node.{pair_shape}
 use Rattle.cabinet_archives.specs.Keyed.{knows_pairs}
 use Rattle.cabinet_archives.specs.declared.opening.refusal.OpenRefusal.TheVariants as refusal
 use Rattle.cabinet_archives.specs.Hashed.{table_shape}
 use Rattle.cabinet_archives.proofs.Auditing.{value_as}
-use Rattle.cabinet_archives.proofs.TableAudit.{HasPair, ArePlacesLeft, all_places, told_none, told_wrong, told_lost, rest_left}
+use Rattle.cabinet_archives.proofs.TableAudit.{HasPair, ArePlacesLeft, all_places, told_none, key_there, told_wrong, told_lost, rest_left}
 use Rattle.cabinet_archives.proofs.maps.hashed.hashed_sound.Goals as goal
 
 pub full_places-control-items-requires : goal.full_places-control-items-requires
@@ -29,6 +30,12 @@ loop-control-init g c =
 pub key_of-key-requires : goal.key_of-key-requires
 key_of-key-requires g c = All-head HasPair _ _ (subst (All HasPair) c.in-Some.ensures.steps c.loop-control.invariant.there)
 
+pub search_own-requires-clause-own : goal.search_own-requires-clause-own
+search_own-requires-clause-own g c =
+    let map = c.args.map in
+    subst (λ n. IsText map.bytes.now n c.key_of-key.result.now) (sym c.pos-own.ensures)
+    (key_there map.bytes map.pos c.requires (c.in-Some.field-0-0, c.in-Some.control, c.in-Some.pair) c.loop-control.control-iterator c.next.new.self c.in-Some.ensures.steps c.loop-control.invariant.left c.key_of-key.result.now c.key_of-key.ensures)
+
 pub returns-then-tag_of-control : goal.returns-then-tag_of-control
 returns-then-tag_of-control g c =
     let map = c.args.map in
@@ -39,7 +46,7 @@ pub returns-then-not-is_found_at : goal.returns-then-not-is_found_at
 returns-then-not-is_found_at g c =
     let map = c.args.map in
     told_lost map.bytes map.pos c.requires (c.in-Some.field-0-0, c.in-Some.control, c.in-Some.pair) c.loop-control.control-iterator c.next.new.self c.in-Some.ensures.steps c.loop-control.invariant.left c.key_of-key.result.now c.key_of-key.ensures
-    c.tag_of.result c.hash_text-hash.result c.hash_text-hash.ensures c.tag_of.ensures.value c.if-tag_of-control.false c.is_found_at.result c.search.result.0 c.hash_text-hash.type_inv (λ b table. (c.search.result.1, c.search.ensures.answers b table)) (subst (λ n. MatchOption c.search.result.0 (c.is_found_at.result ≡ false) (λ at. c.is_found_at.result ≡ (at == n))) c.pos.ensures c.is_found_at.ensures) c.if-not-is_found_at.true refusal.NotFound refl
+    c.tag_of.result c.hash_text-hash.result c.hash_text-hash.ensures c.tag_of.ensures.value c.if-tag_of-control.false c.is_found_at.result c.search_own.result.0 c.hash_text-hash.type_inv (λ b table. (c.search_own.result.1, c.search_own.ensures b table)) (subst (λ n. MatchOption c.search_own.result.0 (c.is_found_at.result ≡ false) (λ at. c.is_found_at.result ≡ (at == n))) c.pos-own.ensures c.is_found_at.ensures) c.if-not-is_found_at.true refusal.NotFound refl
 
 pub loop-control-preserved : goal.loop-control-preserved
 loop-control-preserved g c =
@@ -48,7 +55,7 @@ loop-control-preserved g c =
       there = All-tail HasPair _ _ (subst (All HasPair) c.in-Some.ensures.steps c.loop-control.invariant.there);
       left =
           rest_left map.bytes map.pos c.requires (c.in-Some.field-0-0, c.in-Some.control, c.in-Some.pair) c.loop-control.control-iterator c.next.new.self c.in-Some.ensures.steps c.loop-control.invariant.left c.key_of-key.result.now c.key_of-key.ensures
-          c.tag_of.result c.hash_text-hash.result c.hash_text-hash.ensures c.tag_of.ensures.value c.if-tag_of-control.false c.is_found_at.result c.search.result.0 c.hash_text-hash.type_inv (λ b table. (c.search.result.1, c.search.ensures.answers b table)) (subst (λ n. MatchOption c.search.result.0 (c.is_found_at.result ≡ false) (λ at. c.is_found_at.result ≡ (at == n))) c.pos.ensures c.is_found_at.ensures) c.if-not-is_found_at.false;
+          c.tag_of.result c.hash_text-hash.result c.hash_text-hash.ensures c.tag_of.ensures.value c.if-tag_of-control.false c.is_found_at.result c.search_own.result.0 c.hash_text-hash.type_inv (λ b table. (c.search_own.result.1, c.search_own.ensures b table)) (subst (λ n. MatchOption c.search_own.result.0 (c.is_found_at.result ≡ false) (λ at. c.is_found_at.result ≡ (at == n))) c.pos-own.ensures c.is_found_at.ensures) c.if-not-is_found_at.false;
     }
 
 pub returns : goal.returns

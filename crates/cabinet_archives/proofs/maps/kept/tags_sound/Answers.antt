@@ -6,6 +6,7 @@ use Rattle.archive_forms_laws.specs.Sample.{number_shape}
 use Rattle.archive_hash_maps.specs.Tables.{IsTableAt}
 use Rattle.cabinet_archives.specs.declared.opening.refusal.OpenRefusal.TheVariants as refusal
 use Rattle.cabinet_archives.proofs.IndexAudit.{HasNumber, AreNumbersLeft, all_numbers, number_low, tags_none, tags_wrong, tags_left}
+use Rattle.cabinet_archives.proofs.KeptEntries.{key_stands}
 use Rattle.cabinet_archives.proofs.maps.kept.tags_sound.Goals as goal
 
 pub loop-control-init : goal.loop-control-init
@@ -26,8 +27,8 @@ number_at-requires c =
     subst (λ n. n + 4 ≤ length c.in-Some.number.bytes.now) (sym c.pos.ensures)
     (All-head HasNumber (c.in-Some.field-0-0, c.in-Some.control, c.in-Some.number) _ (subst (All HasNumber) c.in-Some.ensures.steps c.loop-control.invariant.there)).held.own_within
 
-pub key_of-key-requires-clause-within : goal.key_of-key-requires-clause-within
-key_of-key-requires-clause-within c =
+pub key_of-requires-clause-within : goal.key_of-requires-clause-within
+key_of-requires-clause-within c =
     let map = c.args.map in
     let number = c.number_at.ensures.value ∙ ap (word_at c.in-Some.number.bytes.now) c.pos.ensures in
     number_low map.bytes map.pos c.requires (c.in-Some.field-0-0, c.in-Some.control, c.in-Some.number) c.loop-control.control-iterator c.next.new.self c.in-Some.ensures.steps c.loop-control.invariant.left c.number_at.result number
@@ -37,7 +38,7 @@ returns-then-tag_of-control c =
     let map = c.args.map in
     let number = c.number_at.ensures.value ∙ ap (word_at c.in-Some.number.bytes.now) c.pos.ensures in
     tags_wrong map.bytes map.pos c.requires (c.in-Some.field-0-0, c.in-Some.control, c.in-Some.number) c.loop-control.control-iterator c.next.new.self c.in-Some.ensures.steps c.loop-control.invariant.left c.number_at.result number
-    c.key_of-key.result.now c.key_of-key.ensures c.tag_of.result c.hash_text.result c.hash_text.ensures c.tag_of.ensures.value c.if-tag_of-control.true refusal.WrongTag refl
+    c.key_of.result.1.now (key_stands map.bytes.now map.pos c.number_at.result c.key_of.result.0 c.key_of.result.1.now c.key_of.ensures.position c.key_of.ensures.text) c.tag_of.result c.hash_text.result c.hash_text.ensures c.tag_of.ensures.value c.if-tag_of-control.true refusal.WrongTag refl
 
 pub loop-control-preserved : goal.loop-control-preserved
 loop-control-preserved c =
@@ -47,7 +48,7 @@ loop-control-preserved c =
       there = All-tail HasNumber _ _ (subst (All HasNumber) c.in-Some.ensures.steps c.loop-control.invariant.there);
       left =
           tags_left map.bytes map.pos c.requires (c.in-Some.field-0-0, c.in-Some.control, c.in-Some.number) c.loop-control.control-iterator c.next.new.self c.in-Some.ensures.steps c.loop-control.invariant.left c.number_at.result number
-          c.key_of-key.result.now c.key_of-key.ensures c.tag_of.result c.hash_text.result c.hash_text.ensures c.tag_of.ensures.value c.if-tag_of-control.false;
+          c.key_of.result.1.now (key_stands map.bytes.now map.pos c.number_at.result c.key_of.result.0 c.key_of.result.1.now c.key_of.ensures.position c.key_of.ensures.text) c.tag_of.result c.hash_text.result c.hash_text.ensures c.tag_of.ensures.value c.if-tag_of-control.false;
     }
 
 pub returns : goal.returns
