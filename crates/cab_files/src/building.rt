@@ -6,23 +6,27 @@ use crate::ending::standard_output;
 use crate::replacing;
 use cabinet::{Fault, read_text, to_bytes};
 use std::alloc::Global;
-use std::fs;
 use std::fs::File;
 use std::rt::Files;
+use std::{fs, mem};
 
-/// Returns the archive of the document that has a text.
-pub fn archive_of(alloc: Global, text: &[u8]) -> Result<Vec<u8>, Fault>
-    ensures built { IfOk result (λ archive. Builds text.now archive.items) }
-    ensures refused { IfErr result (RefusesText text.now) }
+/// Returns the archive of the document that has a text. The text is dropped once it is read. The document is never dropped:
+/// the program ends with this archive, and to free a document node by node takes a tenth of the time of building.
+pub fn archive_of(alloc: Global, text: Vec<u8>) -> Result<Vec<u8>, Fault>
+    ensures built { IfOk result (λ archive. Builds text.items archive.items) }
+    ensures refused { IfErr result (RefusesText text.items) }
 {
-    let document = match read_text(alloc, text) {
+    let document = match read_text(alloc, text.as_slice()) {
         Ok(document) => document,
         Err(refusal) => return Err(Fault::Text(refusal)),
     };
-    match to_bytes(alloc, &document) {
-        Ok(archive) => Ok(archive),
-        Err(refusal) => Err(Fault::Save(refusal)),
-    }
+    drop(text);
+    let archive = match to_bytes(alloc, &document) {
+        Ok(archive) => archive,
+        Err(refusal) => return Err(Fault::Save(refusal)),
+    };
+    mem::forget(document);
+    Ok(archive)
 }
 
 /// Saves the document that a text file holds as an archive file, and prints the number of bytes of the archive.
@@ -36,7 +40,7 @@ pub fn build<R: Files<File = File> + Print + AllocGlobal>(
     let Ok(bytes) = fs::read(rt, text.as_str()) else {
         return Err(Fault::CannotRead(text));
     };
-    let image = archive_of(rt.alloc(), bytes.as_slice())?;
+    let image = archive_of(rt.alloc(), bytes)?;
     if replacing::write(rt, archive.as_str(), image.as_slice()).is_err() {
         return Err(Fault::CannotWrite(archive));
     }
