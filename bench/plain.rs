@@ -21,6 +21,7 @@ use std::env;
 use std::error::Error;
 use std::fs::{self, OpenOptions};
 use std::io::{self, BufRead, BufReader, BufWriter, IsTerminal, Read, Write};
+use std::mem;
 use std::str::{FromStr, Split};
 
 /// The greatest number of containers that lie in one another.
@@ -356,7 +357,10 @@ fn carry_out(archive: &mut Archive, line: &Line, out: &mut impl Write) -> io::Re
 
 fn build(text: &str, archive: &str) -> Result<(), Refusal> {
     let text = fs::read_to_string(text)?;
-    let bytes = archive_of(&read_document(&text)?)?;
+    let document = read_document(&text)?;
+    let bytes = archive_of(&document)?;
+    // As in cab the document is not dropped: the program ends.
+    mem::forget(document);
     fs::write(archive, &bytes)?;
     writeln!(io::stdout(), "built {}", bytes.len())?;
     Ok(())

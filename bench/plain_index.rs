@@ -99,16 +99,12 @@ impl Check<'_> {
             self.node(part(own, TEXT), at + TEXT, index.entries, depth)?;
         }
         self.claimed = after;
-        for place in full() {
-            let key = key_at(self.bytes, index.entry(index.number(self.bytes, place)))?;
-            if low[place] != tag_of(hash_of(str::from_utf8(key).ok()?)) {
-                return None;
-            }
-        }
+        // Where each key is found, the entries have as many places as the table, each under its key's tag.
         for number in 0..count {
             let key = key_at(self.bytes, index.entry(number))?;
             let hash = hash_of(str::from_utf8(key).ok()?);
-            if find_number(self.bytes, index, hash, key) != Some(number) {
+            let is_own = |other| other == number || key_at(self.bytes, index.entry(other)) == Some(key);
+            if find_number(self.bytes, index, hash, is_own) != Some(number) {
                 return None;
             }
         }
@@ -116,15 +112,20 @@ impl Check<'_> {
     }
 }
 
-/// Returns the number of the entry with a key.
-fn find_number(bytes: &[u8], index: Index, hash: u64, query: &[u8]) -> Option<usize> {
+/// Returns the number of the first entry under a hash that is accepted.
+fn find_number(
+    bytes: &[u8],
+    index: Index,
+    hash: u64,
+    accepts: impl Fn(usize) -> bool,
+) -> Option<usize> {
     let controls = &bytes[index.controls..index.controls + control_count(index.places)];
     for position in Strides::new(hash, index.places) {
         let (mut equal, empty) = scan(controls, position, tag_of(hash));
         while equal != 0 {
             let control = position + equal.trailing_zeros() as usize;
             let number = index.number(bytes, wrapped(control, index.places));
-            if key_at(bytes, index.entry(number)) == Some(query) {
+            if accepts(number) {
                 return Some(number);
             }
             equal &= equal - 1;
@@ -139,7 +140,8 @@ fn find_number(bytes: &[u8], index: Index, hash: u64, query: &[u8]) -> Option<us
 /// Returns the position of the value of a key.
 pub fn find_in_index(bytes: &[u8], index: Option<Index>, query: &str) -> Option<usize> {
     let index = index?;
-    let number = find_number(bytes, index, hash_of(query), query.as_bytes())?;
+    let has_key = |number| key_at(bytes, index.entry(number)) == Some(query.as_bytes());
+    let number = find_number(bytes, index, hash_of(query), has_key)?;
     Some(index.entry(number) + TEXT)
 }
 

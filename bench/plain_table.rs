@@ -90,7 +90,8 @@ impl Check<'_> {
         for place in full() {
             let key = key_at(self.bytes, table.pair(place))?;
             let hash = hash_of(str::from_utf8(key).ok()?);
-            if low[place] != tag_of(hash) || find_place(self.bytes, table, hash, key) != Some(place) {
+            let is_own = |other| other == place || key_at(self.bytes, table.pair(other)) == Some(key);
+            if low[place] != tag_of(hash) || find_place(self.bytes, table, hash, is_own) != Some(place) {
                 return None;
             }
         }
@@ -103,8 +104,13 @@ pub fn key_at(bytes: &[u8], at: usize) -> Option<&[u8]> {
     bytes.get(view_text(part(&bytes[at..], 0), at)?)
 }
 
-/// Returns the place of a key.
-fn find_place(bytes: &[u8], table: Table, hash: u64, query: &[u8]) -> Option<usize> {
+/// Returns the first place with a hash that is accepted.
+fn find_place(
+    bytes: &[u8],
+    table: Table,
+    hash: u64,
+    accepts: impl Fn(usize) -> bool,
+) -> Option<usize> {
     let Table { controls, places } = table;
     let controls = &bytes[controls..controls + control_count(places)];
     for position in Strides::new(hash, places) {
@@ -112,7 +118,7 @@ fn find_place(bytes: &[u8], table: Table, hash: u64, query: &[u8]) -> Option<usi
         while equal != 0 {
             let control = position + equal.trailing_zeros() as usize;
             let place = wrapped(control, places);
-            if key_at(bytes, table.pair(place)) == Some(query) {
+            if accepts(place) {
                 return Some(place);
             }
             equal &= equal - 1;
@@ -127,7 +133,8 @@ fn find_place(bytes: &[u8], table: Table, hash: u64, query: &[u8]) -> Option<usi
 /// Returns the position of the value of a key.
 pub fn find_in_table(bytes: &[u8], table: Option<Table>, query: &str) -> Option<usize> {
     let table = table?;
-    let place = find_place(bytes, table, hash_of(query), query.as_bytes())?;
+    let has_key = |place| key_at(bytes, table.pair(place)) == Some(query.as_bytes());
+    let place = find_place(bytes, table, hash_of(query), has_key)?;
     Some(table.pair(place) + TEXT)
 }
 
