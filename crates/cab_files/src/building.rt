@@ -10,8 +10,8 @@ use std::fs::File;
 use std::rt::Files;
 use std::{fs, mem};
 
-/// Returns the archive of the document that has a text. The text is dropped once it is read. The document is never dropped:
-/// the program ends with this archive, and to free a document node by node takes a tenth of the time of building.
+/// Returns the archive of the document that has a text. The text is dropped once it is read. A document that was saved is
+/// not dropped: the program ends with its archive, and to free it node by node takes a tenth of the instructions.
 pub fn archive_of(alloc: Global, text: Vec<u8>) -> Result<Vec<u8>, Fault>
     ensures built { IfOk result (λ archive. Builds text.items archive.items) }
     ensures refused { IfErr result (RefusesText text.items) }

@@ -107,8 +107,8 @@ fn take_key_line<'a>(
     take_key(alloc, argument, map, stack)
 }
 
-/// Takes in a line of the kind that is expected. This function and what it calls are inlined, since a map that is open
-/// is moved in and out of each call otherwise, which takes more instructions than reading the line.
+/// Takes in a line of the kind that is expected. This function and what it calls are inlined: a map that is open would be
+/// moved in and out of each call.
 #[inline(always)]
 fn take_line<'a>(
     alloc: Global,
