@@ -8,7 +8,6 @@ pub mod Options
 pub mod OrderingLaws
 pub mod Orders
 pub mod Payloads
-pub mod Placing
 pub mod Pointers
 pub mod Regions
 pub mod Results

@@ -15,7 +15,6 @@ pub mod IndexSeen
 pub mod ItemPlaces
 pub mod ListSeen
 pub mod Numbers
-pub mod Parting
 pub mod Placed
 pub mod Planned
 pub mod Present

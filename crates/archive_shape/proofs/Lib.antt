@@ -10,7 +10,6 @@ pub mod Ordered
 pub mod Pieces
 pub mod Pointees
 mod PointerLemmas
-pub mod Pushes
 pub mod QuestionedRegions
 pub mod Questions
 pub mod Ranges

@@ -17,7 +17,9 @@ fn are_ascii(bytes: &[u8]) -> bool
     bytes.iter().all(|byte| *byte < 0x80)
 }
 
-/// Returns whether all bytes are ASCII. Eight at a time are tested without a branch, so that LLVM tests them at once.
+/// Returns whether all bytes are ASCII. Eight at a time are tested without a branch, so that LLVM tests them at once. It is
+/// inlined, as what calls it is, since most texts are a few bytes long.
+#[inline(always)]
 fn is_ascii(bytes: &[u8]) -> bool
     ensures { result ≡ list_all (λ b. nat_lt b 128) bytes.now }
 {
@@ -40,6 +42,7 @@ fn is_ascii(bytes: &[u8]) -> bool
 }
 
 /// Returns whether bytes are UTF-8. Most texts are ASCII, which is tested first since it is tested faster.
+#[inline(always)]
 fn is_utf8(bytes: &[u8]) -> bool
     ensures { IsTrue result ↔ IsUtf8 bytes.now }
 {
@@ -78,6 +81,7 @@ fn is_short_ascii(own: &[u8]) -> bool
 ///
 /// Returns `InvalidSubtreePointer` with `len` if the bytes are not in the range, then `ExceededMaximumSubtreeDepth`,
 /// and then `InvalidUtf8` if they are not a text. It does not allocate.
+#[inline(always)]
 pub fn check_behind<C: ArchiveContext>(
     bytes: &[u8],
     start: usize,
