@@ -1,5 +1,5 @@
 -- A map of which the value of one entry is written over answers for the entries with the new value.
-use Rattle.std.proofs.Common.{◌≡◌, ◌∙◌, ℕ, zero, suc, ◌+◌, ◌^◌, ◌<◌, ◌≤◌, ◌⊎◌, Bool, true, false, cond, List, [], ◌∷◌, length, map, get_or, slice_index, Option, Some, None, MatchOption, IsSome, All, Contains, inl, inr, refl, ap, sym, subst, arith, true≢false}
+use Rattle.std.proofs.Common.{◌≡◌, ◌∙◌, ℕ, zero, suc, ◌+◌, ◌^◌, ◌<◌, ◌≤◌, Bool, true, false, cond, List, [], ◌∷◌, length, map, get_or, slice_index, Option, Some, None, MatchOption, IsSome, Contains, inl, inr, refl, ap, sym, subst, arith}
 use Rattle.std.specs.Prelude.{count_by}
 use Rattle.std.specs.Map.{set_value}
 use Rattle.std.specs.Option.{IsSomeAnd, option_map}
@@ -29,13 +29,13 @@ use Rattle.archive_forms_values.specs.Parts.{HasValue, both}
 use Rattle.archive_forms_values.proofs.Held.{fields_at}
 use Rattle.archive_hash_probing.specs.declared.scanning.hashing.FxHasher64.{FxHasher64}
 use Rattle.archive_hash_probing.proofs.FirstFits.{tag_below}
-use Rattle.archive_hash_maps.specs.Edits.{DiffersInValue, StaysBeside}
+use Rattle.archive_hash.specs.Edits.{DiffersInValue, StaysBeside}
 use Rattle.archive_hash_maps.specs.Maps.{HashesTo, KeySays}
 use Rattle.archive_hash_maps.specs.Places.{LooksUp}
 use Rattle.archive_hash_maps.specs.Tables.{IsTableAt, item_position, item_positions}
 use Rattle.archive_hash_maps.specs.Walks.{BegunMap, IsKept}
 use Rattle.archive_hash_maps.proofs.Apart.{items_descend}
-use Rattle.archive_hash_maps.proofs.Edits.{stays_beside, looks_up_alike, reached_item, found_is_item}
+use Rattle.archive_hash.proofs.Edits.{stays_beside, looks_up_alike, reached_item, found_is_item}
 use Rattle.archive_hash_maps.proofs.Read.{one_table}
 use Rattle.archive_hash.specs.Answering.{HasEntry, AnswersKeys, first_with}
 use Rattle.archive_hash.specs.Edited.{HasOnce, HasOneValue}

@@ -1,5 +1,6 @@
 pub mod Answering
 pub mod Edited
+pub mod Edits
 pub mod EditedOnce
 pub mod Given
 mod Inserted

@@ -16,7 +16,7 @@ use Rattle.archive_forms_laws.specs.State.{State}
 use Rattle.archive_forms_values.specs.Fields.{field_position}
 use Rattle.archive_hash_maps.specs.Calls.Entries.{HasMapAt}
 use Rattle.archive_hash_maps.specs.Calls.Keys.{Hashes, LooksUpQuery}
-use Rattle.archive_hash_maps.specs.Edits.{DiffersInValue}
+use Rattle.archive_hash.specs.Edits.{DiffersInValue}
 use Rattle.archive_hash.specs.Answering.{AnswersKeys}
 use Rattle.archive_hash.specs.Calls.Members.{HashMembers}
 

@@ -13,7 +13,7 @@ use archive_forms::ReadBack;
 use archive_forms_writing::Archive;
 pub use archive_hash_maps::found_is_present;
 pub use archive_hash_maps::walking::{
-    entries_stay, items_descend, keys_stay, one_hash, one_table, table_is_read, table_stays,
+    items_descend, keys_stay, one_hash, one_table, table_is_read, table_stays,
 };
 use archive_hash_maps::{ArchivedHashMap, ArchivedHashSet};
 use archive_hash_probing::FxHasher64;

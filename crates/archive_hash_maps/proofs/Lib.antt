@@ -3,7 +3,6 @@ pub mod Asked
 pub mod Before
 pub mod BucketChecks
 pub mod ControlChecks
-pub mod Edits
 pub mod Entries
 pub mod Found
 pub mod HeadChecks

@@ -1,7 +1,6 @@
 pub mod Buckets
 pub mod Calls
 pub mod Cursors
-pub mod Edits
 pub mod Equal
 pub mod EqualKeys
 pub mod Heads

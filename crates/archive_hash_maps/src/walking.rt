@@ -19,9 +19,7 @@ pub use equal::{has_equal, search_equal};
 pub use hashed::{HashedKey, HashedLeaf};
 pub use iter::{FullPlaces, RawIter, full_places_at, raw_iter_at};
 pub use keyed::{search_key, search_with, value_position};
-pub use laws::{
-    entries_stay, items_descend, keys_stay, one_hash, one_table, table_is_read, table_stays,
-};
+pub use laws::{items_descend, keys_stay, one_hash, one_table, table_is_read, table_stays};
 pub use lookup::{position_of, search_table};
 pub use passing::EntryAt;
 pub use raw_cursor::RawIterSeal;

@@ -1,5 +1,5 @@
 -- What the laws of all parts state.
-use Rattle.std.specs.Prelude.{◌≡◌, ◌≤◌, ℕ, Bool, List, length, Option, Some, None, ⊤}
+use Rattle.std.specs.Prelude.{◌≡◌, ℕ, Bool, List, length, Option, Some, None, ⊤}
 use Rattle.std.specs.HashMap.{HashMap, IsUnique, IsReordered, get}
 use Rattle.std.specs.HashSet as bag
 use Rattle.std.specs.HashSet.{HashSet, contains}

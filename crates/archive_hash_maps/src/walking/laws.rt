@@ -2,7 +2,6 @@
 ghost use Rattle.std.specs.Prelude.{ℕ, List};
 ghost use Rattle.archive_hash_maps.specs.Tables.{TableIsRead, OneTable, ItemsDescend};
 ghost use Rattle.archive_hash_maps.specs.Walks.{TableStays, KeysStay};
-ghost use Rattle.archive_hash_maps.specs.Edits.{EntriesStay};
 ghost use Rattle.archive_hash_maps.specs.Calls.Keys.{HashesAsWritten};
 
 use archive_hash_probing::FxHasher64;
@@ -32,11 +31,6 @@ pub fn table_stays<T: Portable>()
 /// States that each key of a map is kept after any write over the map's values.
 pub fn keys_stay<K: Portable, V: Portable>()
     ensures { KeysStay K.shape V.shape K.knows V.knows }
-{}
-
-/// States that after a write over the value of one entry a map has the same places and keys, and its other entries are kept.
-pub fn entries_stay<K: Portable, V: Portable>()
-    ensures { EntriesStay K.shape V.shape K.knows V.knows }
 {}
 
 /// States that what is fed to the hasher of archived maps has one hash, by which tables are written.

@@ -1,14 +1,13 @@
 -- After a write over the value of one entry, a map has the same places and keys, and its other entries are kept. Look-ups
 -- of which the comparisons say the same find the same.
-use Rattle.std.proofs.Common.{◌≡◌, ◌∙◌, ℕ, ◌+◌, ◌-◌, ◌*◌, ◌%◌, ◌<◌, ◌≤◌, ◌⊎◌, Bool, true, false, List, [], ◌∷◌, ◌++◌, length, take, map, get_or, slice_index, Option, Some, None, All, Contains, inl, inr, refl, ap, sym, subst, arith, eqb, true≢false, mul-le-mul_right, length-append}
+use Rattle.std.proofs.Common.{◌≡◌, ◌∙◌, ℕ, ◌+◌, ◌-◌, ◌*◌, ◌%◌, ◌<◌, ◌≤◌, Bool, true, false, List, [], ◌∷◌, ◌++◌, length, take, map, get_or, slice_index, Option, Some, None, All, Contains, inl, inr, refl, ap, sym, subst, arith, eqb, true≢false, mul-le-mul_right, length-append}
 use Rattle.std.specs.List.{list_any, flat_map}
-use Rattle.std.specs.Option.{option_map}
 use Rattle.std.proofs.lemmas.Bool.{cases_Bool}
 use Rattle.std.proofs.lemmas.List.{length-map, length-take-le, get_or-map, get_or_append_left}
 use Rattle.std.proofs.lemmas.List.Elements.{All-nil, All-cons, All-contains}
 use Rattle.archive_shape_layout.specs.Edit.{Apart}
-use Rattle.archive_shape_layout.specs.Bytes.{align_up, IsOutside}
-use Rattle.archive_shape_layout.specs.Shape.{Shape, size_of, align_of}
+use Rattle.archive_shape_layout.specs.Bytes.{IsOutside}
+use Rattle.archive_shape_layout.specs.Shape.{Shape, size_of}
 use Rattle.archive_shape_layout.specs.Shape.Shapes.{no_shapes}
 use Rattle.archive_shape_layout.specs.Value.{Value}
 use Rattle.archive_shape_layout.specs.Content.{Names}
@@ -24,10 +23,9 @@ use Rattle.archive_shape.proofs.Held.{held_ascend}
 use Rattle.archive_forms_values.specs.Tuples.{tuple2}
 use Rattle.archive_forms_values.specs.Parts.{both}
 use Rattle.archive_forms_values.specs.Fields.{field_position}
-use Rattle.archive_hash_probing.specs.Search.{IsAnswer, IsFoundAmong, IsLookup, IsRefused}
+use Rattle.archive_hash_probing.specs.Search.{IsAnswer, IsRefused}
 use Rattle.archive_hash_probing.proofs.Coverage.{Among}
 use Rattle.archive_hash_probing.proofs.Findable.{All-searched, All-middle, among_append, found_place, same_control, shown_of, strides_within}
-use Rattle.archive_hash_probing.proofs.FirstFits.{tag_below}
 use Rattle.archive_hash_probing.proofs.InStride.{full_below}
 use Rattle.archive_hash_probing.proofs.Wrapping.{Wraps, wraps_of, count_of}
 use Rattle.archive_hash_maps.specs.Tables.{Buckets, IsTableAt, item_position, item_positions}
@@ -35,7 +33,7 @@ use Rattle.archive_hash_maps.specs.Tables.IsTableAt.{has_none, has_buckets}
 use Rattle.archive_hash_maps.specs.Places.{LooksUp}
 use Rattle.archive_hash_maps.specs.Places.LooksUp.{has_no_places, has_places}
 use Rattle.archive_hash_maps.specs.Walks.{BegunMap, HasValuesWritten, IsKept, items_of}
-use Rattle.archive_hash_maps.specs.Edits.{DiffersInValue, StaysBeside}
+use Rattle.archive_hash.specs.Edits.{DiffersInValue, StaysBeside}
 use Rattle.archive_hash_maps.proofs.Found.{none_looked_up}
 use Rattle.archive_hash_maps.proofs.Lookups.{full_among, none_reached, no_strides}
 use Rattle.archive_hash_maps.proofs.Passed.{items_within, keys_kept, values_within}

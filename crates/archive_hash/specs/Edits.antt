@@ -1,5 +1,5 @@
 -- What stays of a map, after a write over the value of one of its entries.
-use Rattle.std.specs.Prelude.{ℕ, List, [], ◌∷◌, All, Contains}
+use Rattle.std.specs.Prelude.{ℕ, List, [], ◌∷◌, All}
 use Rattle.archive_shape_layout.specs.Edit.{Apart}
 use Rattle.archive_shape_layout.specs.Shape.{Shape, size_of}
 use Rattle.archive_shape_layout.specs.Shape.Shapes.{no_shapes}
@@ -22,11 +22,3 @@ pub record StaysBeside {k v : Shape} {knows others : Names → Type 0} (m : Begu
       All
       (λ p. Apart p (size_of (tuple2 k v)) at (size_of (tuple2 k v)) → IsKept (tuple2 k v) (both knows others) m.bytes bytes p)
       (items_of m)
-
--- so it is after any write over the value of one of its entries
-abbrev pub EntriesStay : Shape → Shape → (Names → Type 0) → (Names → Type 0) → Type 0
-EntriesStay k v knows others =
-    (m : BegunMap k v knows others) (at : ℕ) (bytes : List ℕ)
-    → Contains (items_of m) at
-    → DiffersInValue k v at m.bytes bytes
-    → StaysBeside m at bytes
