@@ -4,6 +4,7 @@ pub mod Depths
 pub mod Entries
 pub mod Faults
 pub mod NodeFaults
+pub mod NodeTexts
 pub mod Paths
 pub mod Pieces
 pub mod Repeats

@@ -57,18 +57,21 @@ known_value_after n ps done p later is known =
     after (q ∷ qs) k = after qs (and_parts _ _ k).1
 
 -- each node is a layer around nodes
-unrolled : (n : Node) → (x : Node-F Node) × (n ≡ roll-Node x)
+pub unrolled : (n : Node) → (x : Node-F Node) × (n ≡ roll-Node x)
 unrolled = ind-Node (λ n. (x : Node-F Node) × (n ≡ roll-Node x)) (λ x y is. (x, refl))
 
 module _ (table : List Tree) where
-  -- the line of a whole has the number of its tree
-  pub whole_line : (n : Node) (m : ℕ) → n ≡ node.Whole m → IsTable table → IsTrue (known_below (length table) n) → ended (lines_of (items table (node_tree table n))) ≡ line_of (whole_item m)
-  whole_line n m is is_table known =
+  -- the item of a whole has the number of its tree
+  pub whole_items : (n : Node) (m : ℕ) → n ≡ node.Whole m → IsTable table → IsTrue (known_below (length table) n) → items table (node_tree table n) ≡ whole_item m ∷ []
+  whole_items n m is is_table known =
       let below : m < length table = ltb-true m (length table) (sym (known-whole (length table) m) ∙ subst (λ x. IsTrue (known_below (length table) x)) is known) in
       let found = is_numbered table m below in
-      ap (λ x. ended (lines_of (items table (node_tree table x)))) is
-      ∙ ap (λ t. ended (lines_of (items table t))) (node_tree-whole table m ∙ ap whole_of found.1)
-      ∙ ap (λ k. ended (lines_of (whole_item k ∷ []))) (number_back table m found.0 is_table found.1)
+      ap (λ x. items table (node_tree table x)) is
+      ∙ ap (items table) (node_tree-whole table m ∙ ap whole_of found.1)
+      ∙ ap (λ k. whole_item k ∷ []) (number_back table m found.0 is_table found.1)
+
+  pub whole_line : (n : Node) (m : ℕ) → n ≡ node.Whole m → IsTable table → IsTrue (known_below (length table) n) → ended (lines_of (items table (node_tree table n))) ≡ line_of (whole_item m)
+  whole_line n m is is_table known = ap (λ is. ended (lines_of is)) (whole_items n m is is_table known)
 
   -- the items of the nodes in a node
   abbrev pub inside : Tree → List Item
@@ -81,7 +84,7 @@ module _ (table : List Tree) where
   inside (tree.whole t) = []
 
   -- the first item is the head, as that of each node but a whole
-  abbrev BeginsWithHead : Tree → Type 0
+  abbrev pub BeginsWithHead : Tree → Type 0
   BeginsWithHead t = items table t ≡ head_of t ∷ inside t
 
   layer_begins : (x : Node-F Node) → ((m : ℕ) → roll-Node x ≡ node.Whole m → ⊥) → BeginsWithHead (view_step table (map-Node Node Tree (node_tree table) x))
@@ -97,7 +100,7 @@ module _ (table : List Tree) where
   layer_begins (Node-F.Kept v) other = refl
   layer_begins (Node-F.Whole n) other = absurd (other n (node.rolls-Whole n))
 
-  begins : (n : Node) → ((m : ℕ) → n ≡ node.Whole m → ⊥) → BeginsWithHead (node_tree table n)
+  pub begins : (n : Node) → ((m : ℕ) → n ≡ node.Whole m → ⊥) → BeginsWithHead (node_tree table n)
   begins n other =
       let layer = unrolled n in
       rw layer.1 (subst BeginsWithHead (sym (fold-roll-Node Tree (view_step table) layer.0)) (layer_begins layer.0 (λ m is. other m (layer.1 ∙ is))))

@@ -5,6 +5,7 @@ pub mod Depths
 pub mod Faults
 pub mod Kinds
 pub mod Lines
+pub mod NodeTexts
 pub mod Order
 pub mod Outcomes
 pub mod View
