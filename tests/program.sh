@@ -2266,6 +2266,9 @@ shows "wholes 1\nint 5\nlist 3\n$maps"
 # numbered by the keys, of which the second has the lower place
 shows "wholes 2\nint 1\nint 2\nhashed 2\n'a\nwhole 0\n'b\nwhole 1"
 shows "wholes 2\nkept 1\n'a\nshared 'b\nordered 1\n'c\nwhole 0\nkept 2\n'z\nsome\nwhole 1\n'a\nwhole 0"
+# wholes that differ in their shared texts alone, and in the order of these
+shows "wholes 2\nlist 1\nshared 'a\nlist 1\nshared 'b\nlist 3\nwhole 0\nwhole 1\nwhole 0"
+shows "wholes 2\nlist 2\nshared 'a\nshared 'b\nlist 2\nshared 'b\nshared 'a\nlist 2\nwhole 0\nwhole 1"
 shows "list 3\nshared 'a\nsome\nshared 'b\nordered 2\n'k\nshared 'a\n'l\nhashed 1\n'm\nshared 'b"
 shows "ordered 1\n'k\nsome\nlist 1\nhashed 1\n'l\nshared '"
 shows "list 2\nkept 2\n'b\nhashed 1\n'x\nkept 1\n'y\nshared 'c\n'a\ntext 'c\nsome\nkept 0"
@@ -2280,6 +2283,26 @@ for container in some 'list 1' "ordered 1\\\\n'a" "hashed 1\\\\n'a" "kept 1\\\\n
     ends 0 ''
     finish
 done
+
+# the text is 40 MB, of which the document has the shared text once
+begin 'a shared text that 2,000 wholes have is loaded once'
+awk 'BEGIN {
+    text = sprintf("%20000s", "")
+    gsub(" ", "t", text)
+    print "wholes 2000"
+    for (i = 0; i < 2000; i++)
+        printf "list 2\nshared \x27%s\nint %d\n", text, i
+    print "list 2000"
+    for (i = 0; i < 2000; i++)
+        print "whole", i
+}' > text
+run build text a.cab
+prints 'built 212024\n'
+(ulimit -v 30000 && "$show" a.cab < input > output 2> errors)
+ended=$?
+cmp -s output text || differs 'the text is another'
+ends 0 ''
+finish
 
 begin 'an archive that is edited and shown is built again'
 text "hashed 2\n'a\ntext 'world\n'b\nlist 2\nint 7\nint 19\n"
@@ -2331,6 +2354,9 @@ images() {
 images "$empty_leaf" "ordered 5\n'a\nint 1\n'b\nint 2\n'c\nint 3\n'd\nint 4\n'e\nint 5"
 images "$(with "$coffee" 188 aaaaaaaaaaaaaaaaaaaaaaaa)bbbbbbbbbbbbbb" "ordered 2\n'coffee\nint 300\n'tea\nint 250"
 images "$found" "hashed 1\n'a\nint 1"
+# equal wholes apart, with one shared text
+images "610000000000000003000000f4ffffff01000000$(zeros 12)03000000dcffffff01000000$(zeros 12)09000000ccffffff$(zeros 16)09000000ccffffff$(zeros 16)05000000ccffffff02000000$(zeros 12)" \
+    "wholes 1\nshared 'a\nlist 2\nwhole 0\nwhole 0"
 images "$(with "$z_and_a" 132 aaaaaaaa)" "kept 2\n'z\nint 1\n'a\nint 2"
 
 begin 'shown: equal wholes apart, as one'

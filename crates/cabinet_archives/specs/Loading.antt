@@ -1,5 +1,5 @@
 -- The trees that are loaded, and the texts and the wholes that are kept meanwhile.
-use Rattle.std.specs.Prelude.{◌≡◌, ⊤, ℕ, ◌+◌, ◌≤◌, List, [], ◌∷◌, All, String, Vec, Option, IfSome, Some}
+use Rattle.std.specs.Prelude.{◌≡◌, ⊤, ℕ, ◌+◌, ◌≤◌, List, [], ◌∷◌, All, String, Option, IfSome, Some}
 use Rattle.std.specs.BTreeMap.{BTreeMap, get}
 use Rattle.std.specs.Ordering.{match_ordering, nat_cmp, ordering_then}
 use Rattle.std.specs.Cmp.Lexicographic.{slice_cmp}
@@ -14,12 +14,14 @@ use Rattle.archive_shape_layout.specs.Value.{Value}
 use Rattle.archive_shape_layout.specs.Content.{Names}
 use Rattle.archive_shape.specs.Key.{HeldAt}
 use Rattle.archive_forms_values.specs.Parts.{HasValue}
-use Rattle.cabinet_text_grammar.specs.Completing.{text_in}
+use Rattle.cabinet_text_grammar.specs.Item.{items}
 use Rattle.cabinet_text_grammar.specs.Tree.{Tree, Pairs, no_pairs, more_pairs, IsLegal, depth as height, map}
 use Rattle.cabinet_text_grammar.specs.Keys.{MapKind}
 use Rattle.cabinet_text_grammar.specs.Wholes.{IsTable, numbered, with_wholes, with_wholes_by}
+use Rattle.cabinet_text_nodes.specs.NodeTexts.{HasItems, node_text_cmp}
 use Rattle.cabinet_text_nodes.specs.View.{node_tree, node_pairs, table_of}
 use Rattle.cabinet_text_nodes.specs.declared.node.Node.{Node}
+use Rattle.cabinet_text_nodes.specs.declared.node_text.NodeText.{NodeText}
 use Rattle.cabinet_documents.specs.Denotes.{Denotes}
 use Rattle.cabinet_documents.specs.Node.{node_shape, KnowsNode}
 use Rattle.cabinet_archives.specs.Found.{OfDocument}
@@ -64,14 +66,10 @@ all_added (more_pairs k t ps) others = all_added ps (added k t others)
 abbrev pub loaded_table : LoadedWholes → List Tree
 loaded_table wholes = table_of wholes.nodes.items
 
--- the order of the texts of wholes
-abbrev pub text_cmp : Vec ℕ Global → Vec ℕ Global → Ordering
-text_cmp a b = slice_cmp nat_cmp a.items b.items
-
 -- the numbers of a table: each tree is found by its text, and no text leads to another
-pub record AreNumbersOf (table : List Tree) (numbers : BTreeMap (Vec ℕ Global) ℕ) : Type 0 where
-  pub found : (n : ℕ) (t : Tree) → numbered table n ≡ Some t → (key : Vec ℕ Global) → key.items ≡ text_in table t → get text_cmp numbers key ≡ Some n
-  pub told : (key : Vec ℕ Global) → IfSome (get text_cmp numbers key) (λ n. (t : Tree) × (numbered table n ≡ Some t) × (key.items ≡ text_in table t))
+pub record AreNumbersOf (table : List Tree) (numbers : BTreeMap NodeText ℕ) : Type 0 where
+  pub found : (n : ℕ) (t : Tree) → numbered table n ≡ Some t → (key : NodeText) → HasItems key (items table t) → get node_text_cmp numbers key ≡ Some n
+  pub told : (key : NodeText) → IfSome (get node_text_cmp numbers key) (λ n. (t : Tree) × (numbered table n ≡ Some t) × HasItems key (items table t))
 
 -- the number that is kept under a position
 abbrev pub read_at : LoadedWholes → ℕ → Option ℕ

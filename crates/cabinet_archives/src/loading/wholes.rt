@@ -9,17 +9,17 @@ ghost use Rattle.cabinet_archives.specs.Loading.{AreWholesOf, loaded_table, read
 
 use archive_shape::Ref;
 use cabinet_archived::ArchivedNode;
-use cabinet_text_nodes::{Node, write_node};
+use cabinet_text_nodes::{Node, NodeText};
 use std::alloc::{AllocError, Global};
 use std::collections::BTreeMap;
 
 /// The wholes that were loaded: their nodes, by their numbers, and these numbers by the texts of the nodes and by the
 /// positions at which nodes were read. So a node to which many pointers lead is read once, and equal wholes at different
-/// positions become one.
+/// positions become one. The texts have no copy of a shared text, to which one archive may have a pointer in each whole.
 #[derive(Drop)]
 pub(crate) struct LoadedWholes {
     read: BTreeMap<usize, u64>,
-    numbers: BTreeMap<Vec<u8>, u64>,
+    numbers: BTreeMap<NodeText, u64>,
     nodes: Vec<Node>,
 }
 
@@ -60,7 +60,8 @@ impl LoadedWholes {
     }
 
     /// Returns the number of the whole with the tree of a node, which is added unless a whole has an equal one. Equal trees
-    /// have equal texts: the time grows with the size of the text and the logarithm of the number of wholes.
+    /// have equal texts: the time grows with the size of the text and the logarithm of the number of wholes. The memory is
+    /// in proportion to the node, however long its shared texts are.
     pub(crate) fn share(&mut self, alloc: Global, node: Node) -> Result<u64, AllocError>
         requires legal { IsLegal (node_tree (loaded_table self.old) node) }
         requires low { depth (node_tree (loaded_table self.old) node) < 64 }
@@ -68,8 +69,7 @@ impl LoadedWholes {
         ensures table { (bytes : List ℕ) → AreWholesOf bytes self.old → IfOk result (λ _. loaded_table self.new ≡ with_tree (loaded_table self.old) (node_tree (loaded_table self.old) node)) }
         ensures knows { (bytes : List ℕ) → AreWholesOf bytes self.old → IfOk result (λ _. AreWholesOf bytes self.new) }
     {
-        let mut text = Vec::new(alloc);
-        let Ok(()) = write_node(&node, &mut text) else {
+        let Ok(text) = NodeText::new(alloc, &node) else {
             return Err(AllocError);
         };
         if let Some(number) = self.numbers.get(&text) {
