@@ -2287,14 +2287,15 @@ done
 # the text is 40 MB, of which the document has the shared text once
 begin 'a shared text that 2,000 wholes have is loaded once'
 awk 'BEGIN {
-    text = sprintf("%20000s", "")
-    gsub(" ", "t", text)
+    text = "tttttttttt"
+    while (length(text) < 20000)
+        text = text (2 * length(text) > 20000 ? substr(text, 1, 20000 - length(text)) : text)
     print "wholes 2000"
     for (i = 0; i < 2000; i++)
-        printf "list 2\nshared \x27%s\nint %d\n", text, i
+        print "list 2\nshared \x27" text "\nint " i
     print "list 2000"
     for (i = 0; i < 2000; i++)
-        print "whole", i
+        print "whole " i
 }' > text
 run build text a.cab
 prints 'built 212024\n'
