@@ -5,6 +5,7 @@ pub mod Completing
 pub mod Cuts
 pub mod Decided
 pub mod DistinctKeys
+pub mod EditLines
 pub mod Equal
 pub mod Escapes
 mod ExamplesFaults
@@ -20,6 +21,8 @@ pub mod LegalStages
 pub mod Lines
 pub mod Pieces
 pub mod ReadBack
+pub mod Restructured
+pub mod RestructuredPaths
 pub mod Runs
 pub mod Spelled
 pub mod Stages

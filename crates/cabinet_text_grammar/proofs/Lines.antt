@@ -19,11 +19,11 @@ onto_first_word : ℕ → List (List ℕ) → List (List ℕ)
 onto_first_word b [] = (b ∷ []) ∷ []
 onto_first_word b (w ∷ ws) = (b ∷ w) ∷ ws
 
-words_of : List ℕ → List (List ℕ)
+pub words_of : List ℕ → List (List ℕ)
 words_of [] = [] ∷ []
 words_of (b ∷ bs) = if b == 32 then [] ∷ words_of bs else onto_first_word b (words_of bs)
 
-words-before_space : (word rest : List ℕ) → Lacks 32 word → words_of (word ++ 32 ∷ rest) ≡ word ∷ words_of rest
+pub words-before_space : (word rest : List ℕ) → Lacks 32 word → words_of (word ++ 32 ∷ rest) ≡ word ∷ words_of rest
 unfolding words_of onto_first_word
 words-before_space [] rest p = refl
 words-before_space (b ∷ bs) rest p =
@@ -46,7 +46,7 @@ Lacks-step (key k) p = (λ e. omega (arith, e), Lacks-escaped 32 k (inr refl))
 Lacks-step (place n) p = (λ e. omega (arith, e), Lacks-decimal 32 n (omega arith) p)
 Lacks-step inside p = Lacks-tested 32 (codes "?") refl
 
-words-path : (word : List ℕ) (path : List Step) → Lacks 32 word → All IsStep path → words_of (word ++ spelled_path path) ≡ word ∷ map spelled_step path
+pub words-path : (word : List ℕ) (path : List Step) → Lacks 32 word → All IsStep path → words_of (word ++ spelled_path path) ≡ word ∷ map spelled_step path
 words-path word [] p steps = ap words_of (append-nil word) ∙ words-last word p
 words-path word (step ∷ path) p steps =
     words-before_space word (spelled_step step ++ spelled_path path) p
@@ -60,7 +60,16 @@ pub record TwoWords (bytes : List ℕ) : Type 0 where
   pub first_word : Lacks 32 word
   pub second_word : Lacks 32 argument
 
-pub two_words : (l : Leaf) → IsLeaf l → TwoWords (spelled_leaf l)
+pub words-two :
+    (bytes : List ℕ) (w : TwoWords bytes) (path : List Step) → All IsStep path
+    → words_of (bytes ++ spelled_path path) ≡ w.word ∷ w.argument ∷ map spelled_step path
+words-two bytes w path steps =
+    ap (λ bs. words_of (bs ++ spelled_path path)) w.spelled
+    ∙ ap words_of (append_assoc w.word (32 ∷ w.argument) (spelled_path path))
+    ∙ words-before_space w.word (w.argument ++ spelled_path path) w.first_word
+    ∙ ap (λ ws. w.word ∷ ws) (words-path w.argument path w.second_word steps)
+
+unfoldable pub two_words : (l : Leaf) → IsLeaf l → TwoWords (spelled_leaf l)
 two_words (truth true) p = record {
   word = codes "bool";
   argument = codes "true";
@@ -91,7 +100,7 @@ two_words (text t) p = record {
 }
 
 -- a step by its first byte
-step_of_word : List ℕ → Step
+pub step_of_word : List ℕ → Step
 step_of_word w =
     if get_or w 0 0 == 39 then key (unescaped (drop 1 w))
     else (if get_or w 0 0 == 35 then place (digits_value 10 (drop 1 w)) else inside)
@@ -102,7 +111,7 @@ step_back (key k) p = ap key (unescaped-escaped k)
 step_back (place n) p = ap place (digits_value-decimal own n p)
 step_back inside p = refl
 
-path_back : (path : List Step) → All IsStep path → map step_of_word (map spelled_step path) ≡ path
+pub path_back : (path : List Step) → All IsStep path → map step_of_word (map spelled_step path) ≡ path
 path_back [] steps = refl
 path_back (step ∷ path) steps =
     ap (λ s. s ∷ map step_of_word (map spelled_step path)) (step_back step (All-head IsStep step path steps))
@@ -127,7 +136,7 @@ line_of_words b ws =
     if b == 103 then get (map step_of_word ws)
     else (if b == 107 then keys (map step_of_word ws) else (if b == 114 then range_of ws else set_of ws))
 
-read_line : List ℕ → Line
+pub read_line : List ℕ → Line
 read_line bytes = line_of_words (get_or bytes 0 0) (drop 1 (words_of bytes))
 
 words-range : (low high : List ℕ) (path : List Step) → All IsStep path → words_of (spelling (range low high path)) ≡ codes "range" ∷ (39 ∷ escaped low) ∷ (39 ∷ escaped high) ∷ map spelled_step path
@@ -140,12 +149,9 @@ words-range low high path steps =
 words-set : (path : List Step) (l : Leaf) (w : TwoWords (spelled_leaf l)) → All IsStep path → words_of (spelling (set path l)) ≡ codes "set" ∷ w.word ∷ w.argument ∷ map spelled_step path
 words-set path l w steps =
     words-before_space (codes "set") (spelled_leaf l ++ spelled_path path) (Lacks-tested 32 (codes "set") refl)
-    ∙ ap (λ bytes. codes "set" ∷ words_of (bytes ++ spelled_path path)) w.spelled
-    ∙ ap (λ bytes. codes "set" ∷ words_of bytes) (append_assoc w.word (32 ∷ w.argument) (spelled_path path))
-    ∙ ap (λ ws. codes "set" ∷ ws) (words-before_space w.word (w.argument ++ spelled_path path) w.first_word)
-    ∙ ap (λ ws. codes "set" ∷ w.word ∷ ws) (words-path w.argument path w.second_word steps)
+    ∙ ap (λ ws. codes "set" ∷ ws) (words-two (spelled_leaf l) w path steps)
 
-line_back : (line : Line) → IsPossible line → read_line (spelling line) ≡ line
+pub line_back : (line : Line) → IsPossible line → read_line (spelling line) ≡ line
 unfolding read_line line_of_words range_of set_of leaf_in
 line_back (get path) p =
     ap (λ ws. line_of_words 103 (drop 1 ws)) (words-path (codes "get") path (Lacks-tested 32 (codes "get") refl) p) ∙ ap get (path_back path p)

@@ -10,7 +10,7 @@ use Rattle.cabinet_text_grammar.proofs.Tables.{numbered_wholes}
 
 -- a tree without wholes adds none to a table
 mutual
-  none : (t : Tree) (table : List Tree) → HasNoWhole t → with_wholes table t ≡ table
+  pub none : (t : Tree) (table : List Tree) → HasNoWhole t → with_wholes table t ≡ table
   none (leaf l) table h = refl
   none (shared s) table h = refl
   none nothing table h = refl

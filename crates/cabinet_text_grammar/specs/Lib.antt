@@ -3,6 +3,7 @@ pub mod Answers
 pub mod Completing
 pub mod Documents
 pub mod Due
+pub mod EditLine
 pub mod Fault
 pub mod Faulty
 pub mod Frame
@@ -15,6 +16,9 @@ pub mod Memory
 pub mod PairsLaws
 pub mod Path
 pub mod Reading
+pub mod Restructuring
+pub mod RestructuringExamples
+pub mod RestructuringLaws
 pub mod Spelling
 pub mod Steps
 pub mod TextKey

@@ -1,4 +1,5 @@
 //! Laws of texts, lines, edits, maps and wholes, for other crates to cite.
+ghost use Rattle.cabinet_text_grammar.specs.EditLine.{OneEditLine};
 ghost use Rattle.cabinet_text_grammar.specs.Laws.{OneDocument, FaultRefuses, OneFault, OneLine, OnlyDoneChanges, ChangeKeepsDocument};
 ghost use Rattle.cabinet_text_grammar.specs.PairsLaws.{MapAnswersItsPairs};
 ghost use Rattle.cabinet_text_grammar.specs.WholesLaws.{TextWithoutWholes};
@@ -21,6 +22,11 @@ pub fn one_fault()
 /// States that bytes spell at most one line.
 pub fn one_line()
     ensures { OneLine }
+{}
+
+/// States that bytes spell at most one line of a session in which documents grow.
+pub fn one_edit_line()
+    ensures { OneEditLine }
 {}
 
 /// States that only an edit that is done changes the document.

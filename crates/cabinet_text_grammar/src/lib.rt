@@ -21,10 +21,15 @@ pub use texts::{read_back, text_or_fault};
 mod cause;
 mod depth;
 mod laws;
+mod restructuring;
 
 pub use cause::Cause;
 pub use depth::MAX_DEPTH;
 pub use laws::{
-    change_keeps_document, fault_refuses, map_answers_its_pairs, one_document, one_fault, one_line,
-    only_done_changes, text_without_wholes,
+    change_keeps_document, fault_refuses, map_answers_its_pairs, one_document, one_edit_line,
+    one_fault, one_line, only_done_changes, text_without_wholes,
+};
+pub use restructuring::{
+    elements, insert_keeps_document, insert_moves_elements, lines_that_edit, new_keys, options,
+    put_keeps_document, put_leads_to_new, remove_keeps_document, remove_moves_elements,
 };

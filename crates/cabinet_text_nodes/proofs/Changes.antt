@@ -3,7 +3,8 @@ use Rattle.std.proofs.Common.{◌≡◌, ◌<◌, length, get_or, ℕ, zero, suc
 use Rattle.std.proofs.lemmas.Option.{slice_get-get_or}
 use Rattle.std.specs.Prelude.{string_bytes, slice_get}
 use Rattle.std.specs.Option.{option_map}
-use Rattle.std.specs.Map.{lookup, set_value}
+use Rattle.std.specs.List.{remove}
+use Rattle.std.specs.Map.{lookup, set_value, remove_entry}
 use Rattle.std.specs.Str.{bytes_eq}
 use Rattle.cabinet_text_grammar.specs.Keys.{MapKind, kept}
 use Rattle.cabinet_text_grammar.specs.Tree.{Leaf, Tree, just, list, map, whole, more_trees, Pairs, no_pairs, more_pairs}
@@ -14,12 +15,12 @@ use Rattle.cabinet_text_grammar.proofs.Changes.{only_done_changes}
 use Rattle.cabinet_text_nodes.specs.Answers.{Sets, place_by}
 use Rattle.cabinet_text_nodes.specs.View.{node_tree, node_trees, node_pairs}
 use Rattle.cabinet_text_nodes.specs.declared.node.Node.{Node}
-use Rattle.cabinet_text_nodes.specs.declared.answer.SetAnswer.{SetAnswer}
-use Rattle.cabinet_text_nodes.specs.declared.answer.SetAnswer.TheVariants.{Missing, Refused}
+use Rattle.cabinet_text_nodes.specs.declared.answer.EditAnswer.{EditAnswer}
+use Rattle.cabinet_text_nodes.specs.declared.answer.EditAnswer.TheVariants.{Missing, Refused}
 use Rattle.cabinet_text_nodes.proofs.Paths.{then_at, first_in, first_by, node_in-nodes, node_by-entries, is_key, same_test}
 
 -- the same of equal trees and paths
-pub sets-moved : {s t u v : Tree} {p q : List Step} {l : Leaf} {r : SetAnswer} → t ≡ s → q ≡ p → v ≡ u → Sets s p l r u → Sets t q l r v
+pub sets-moved : {s t u v : Tree} {p q : List Step} {l : Leaf} {r : EditAnswer} → t ≡ s → q ≡ p → v ≡ u → Sets s p l r u → Sets t q l r v
 sets-moved {s} {t} {u} {v} {p} {q} {l} {r} same_tree same_path same_after h = record {
   answered = h.answered ∙ sym (ap (λ x. answer x (line.set q l)) same_tree ∙ ap (λ x. answer s (line.set x l)) same_path);
   left = same_after ∙ h.left ∙ sym (ap (λ x. change x q l) same_tree ∙ ap (λ x. change s x l) same_path);
@@ -36,7 +37,7 @@ sets_nothing t path l nowhere =
 
 module _ (table : List Tree) (path : List Step) (l : Leaf) where
   -- through an option
-  pub sets_inside : {r : SetAnswer} {t u : Tree} → Sets t path l r u → Sets (just t) (inside ∷ path) l r (just u)
+  pub sets_inside : {r : EditAnswer} {t u : Tree} → Sets t path l r u → Sets (just t) (inside ∷ path) l r (just u)
   sets_inside h = record { answered = h.answered; left = ap just h.left }
 
   element_left : (ns : List Node) (i : ℕ) (old new : Node) → slice_get ns i ≡ Some old → node_tree table new ≡ change (node_tree table old) path l → node_trees table (set ns i new) ≡ change_in (node_trees table ns) i path l
@@ -59,7 +60,7 @@ module _ (table : List Tree) (path : List Step) (l : Leaf) where
   element_found (n ∷ ns) (suc i) old there = element_found ns i old there
 
   -- through a list
-  pub sets_element : {r : SetAnswer} (ns : List Node) (i : ℕ) (old new : Node) → slice_get ns i ≡ Some old → Sets (node_tree table old) path l r (node_tree table new) → Sets (list (node_trees table ns)) (place i ∷ path) l r (list (node_trees table (set ns i new)))
+  pub sets_element : {r : EditAnswer} (ns : List Node) (i : ℕ) (old new : Node) → slice_get ns i ≡ Some old → Sets (node_tree table old) path l r (node_tree table new) → Sets (list (node_trees table ns)) (place i ∷ path) l r (list (node_trees table (set ns i new)))
   sets_element ns i old new there h =
       let found = element_found ns i old there in
       record { answered = h.answered ∙ same_outcome found.0 found.1; left = ap list (element_left ns i old new there h.left) }
@@ -99,7 +100,7 @@ module _ (table : List Tree) (path : List Step) (l : Leaf) where
       by false true same found rest = cc
 
   -- through a map
-  pub sets_value : {r : SetAnswer} (kind : MapKind) (ps : List (String Global × Node)) (k : List ℕ) (old new : Node) → lookup (is_key k) ps ≡ Some old → Sets (node_tree table old) path l r (node_tree table new) → Sets (map kind (node_pairs table ps)) (key k ∷ path) l r (map kind (node_pairs table (set_value (is_key k) ps new)))
+  pub sets_value : {r : EditAnswer} (kind : MapKind) (ps : List (String Global × Node)) (k : List ℕ) (old new : Node) → lookup (is_key k) ps ≡ Some old → Sets (node_tree table old) path l r (node_tree table new) → Sets (map kind (node_pairs table ps)) (key k ∷ path) l r (map kind (node_pairs table (set_value (is_key k) ps new)))
   sets_value kind ps k old new there h =
       let found = value_found ps k old there in
       record { answered = h.answered ∙ same_outcome found.0 found.1; left = ap (map kind) (value_left ps k old new there h.left) }
@@ -115,6 +116,7 @@ module _ (table : List Tree) (path : List Step) (l : Leaf) where
 pub record Placed (ps : List (String Global × Node)) (k : List ℕ) (i : ℕ) (p : String Global × Node) : Type 0 where
   pub found : lookup (is_key k) ps ≡ Some p.1
   pub put : (new : Node) → set ps i (p.0, new) ≡ set_value (is_key k) ps new
+  pub taken : remove ps i ≡ remove_entry (is_key k) ps
 
 record IsAfter (found : Option ℕ) (i : ℕ) : Type 0 where
   pub before : ℕ
@@ -125,7 +127,7 @@ next_place : (found : Option ℕ) (i : ℕ) → option_map (λ j. suc j) found �
 next_place None i h = cc
 next_place (Some j) i h = record { before = j; found_is = refl; next_is = cc }
 
-no_next : (found : Option ℕ) → option_map (λ j. suc j) found ≡ None → found ≡ None
+pub no_next : (found : Option ℕ) → option_map (λ j. suc j) found ≡ None → found ≡ None
 no_next None h = refl
 no_next (Some j) h = cc
 
@@ -133,17 +135,18 @@ pub placed : (table : List Tree) (ps : List (String Global × Node)) (k : List �
 placed table [] k i p h there = cc
 placed table (q ∷ ps) k i p h there =
     let r = by (is_key k q.0) (bytes_eq (string_bytes q.0) k) (same_test k (string_bytes q.0)) i h there (λ j at here. placed table ps k j p at here) in
-    record { found = r.0; put = r.1 }
+    record { found = r.0; put = r.1.0; taken = r.1.1 }
   where
     by :
         (a b : Bool) → a ≡ b → (i : ℕ)
         → (if b then Some 0 else option_map (λ j. suc j) (place_by (node_pairs table ps) k)) ≡ Some i
         → slice_get (q ∷ ps) i ≡ Some p
         → ((j : ℕ) → place_by (node_pairs table ps) k ≡ Some j → slice_get ps j ≡ Some p → Placed ps k j p)
-        → (cond a (Some q.1) (lookup (is_key k) ps) ≡ Some p.1) × ((new : Node) → set (q ∷ ps) i (p.0, new) ≡ cond a ((q.0, new) ∷ ps) (q ∷ set_value (is_key k) ps new))
+        → (cond a (Some q.1) (lookup (is_key k) ps) ≡ Some p.1)
+        × (((new : Node) → set (q ∷ ps) i (p.0, new) ≡ cond a ((q.0, new) ∷ ps) (q ∷ set_value (is_key k) ps new)) × (remove (q ∷ ps) i ≡ cond a ps (q ∷ remove_entry (is_key k) ps)))
     by true true same zero at here rest =
         let is : q ≡ p = cc in
-        (ap (λ x. Some x.1) is, λ new. ap (λ x. (x.0, new) ∷ ps) (sym is))
+        (ap (λ x. Some x.1) is, (λ new. ap (λ x. (x.0, new) ∷ ps) (sym is), refl))
     by true true same (suc i) at here rest =
         let no : 0 ≡ suc i = cc in
         absurd (omega (arith, no))
@@ -152,7 +155,7 @@ placed table (q ∷ ps) k i p h there =
         let after : IsAfter (place_by (node_pairs table ps) k) (suc i) = next_place (place_by (node_pairs table ps) k) (suc i) at in
         let is : after.before ≡ i = omega (arith, after.next_is) in
         let r : Placed ps k i p = rest i (after.found_is ∙ ap Some is) here in
-        (r.found, λ new. ap (λ x. q ∷ x) (r.put new))
+        (r.found, (λ new. ap (λ x. q ∷ x) (r.put new), ap (λ x. q ∷ x) r.taken))
     by true false same i at here rest = cc
     by false true same i at here rest = cc
 
@@ -165,7 +168,7 @@ unplaced (more_pairs m t ps) k path h = by (bytes_eq m k) h (unplaced ps k path)
     by false g rest = rest (no_next (place_by ps k) g)
 
 -- through a kept map, by the place of a key
-pub sets_kept_value : (table : List Tree) (path : List Step) (l : Leaf) {r : SetAnswer} (ps : List (String Global × Node)) (k : List ℕ) (i : ℕ) (p : String Global × Node) (new : Node) → Some i ≡ place_by (node_pairs table ps) k → i < length ps → p ≡ get_or ps i p → Sets (node_tree table p.1) path l r (node_tree table new) → Sets (map kept (node_pairs table ps)) (key k ∷ path) l r (map kept (node_pairs table (set ps i (p.0, new))))
+pub sets_kept_value : (table : List Tree) (path : List Step) (l : Leaf) {r : EditAnswer} (ps : List (String Global × Node)) (k : List ℕ) (i : ℕ) (p : String Global × Node) (new : Node) → Some i ≡ place_by (node_pairs table ps) k → i < length ps → p ≡ get_or ps i p → Sets (node_tree table p.1) path l r (node_tree table new) → Sets (map kept (node_pairs table ps)) (key k ∷ path) l r (map kept (node_pairs table (set ps i (p.0, new))))
 sets_kept_value table path l ps k i p new at within is h =
     let there : Placed ps k i p = placed table ps k i p (sym at) (slice_get-get_or ps i p within ∙ ap Some (sym is)) in
     sets-moved refl refl (ap (λ qs. map kept (node_pairs table qs)) (there.put new)) (sets_value table path l kept ps k p.1 new there.found h)

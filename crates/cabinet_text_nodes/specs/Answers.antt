@@ -9,11 +9,11 @@ use Rattle.cabinet_text_grammar.specs.Answering as answering
 use Rattle.cabinet_text_nodes.specs.declared.answer.Asked.{Asked}
 use Rattle.cabinet_text_nodes.specs.declared.answer.Asked.TheVariants.{Answered}
 use Rattle.cabinet_text_nodes.specs.declared.answer.Asked.TheVariants as asked
-use Rattle.cabinet_text_nodes.specs.declared.answer.SetAnswer.{SetAnswer}
+use Rattle.cabinet_text_nodes.specs.declared.answer.EditAnswer.{EditAnswer}
 use Rattle.cabinet_text_nodes.specs.Outcomes.{outcome_of}
 
 -- setting a leaf has this outcome, and results in this document
-pub record Sets (t : Tree) (path : List Step) (new : Leaf) (result : SetAnswer) (after : Tree) : Type 0 where
+pub record Sets (t : Tree) (path : List Step) (new : Leaf) (result : EditAnswer) (after : Tree) : Type 0 where
   pub answered : outcome_of result ≡ answering.answer t (set path new)
   pub left : after ≡ answering.change t path new
 

@@ -16,7 +16,7 @@ use Rattle.cabinet_text_grammar.specs.Wholes.{wholes_of, IsTable, IsDocument}
 use Rattle.cabinet_text_nodes.specs.Answers.{Sets}
 use Rattle.cabinet_text_nodes.specs.Faults.{wholes_with, HasTwice, IsRefusedTable}
 use Rattle.cabinet_text_nodes.specs.View.{node_tree, node_trees, node_pairs, table_of, known_below, all_known, lent_leaf, step_of, path_of}
-use Rattle.cabinet_text_nodes.specs.declared.answer.SetAnswer.{SetAnswer}
+use Rattle.cabinet_text_nodes.specs.declared.answer.EditAnswer.{EditAnswer}
 use Rattle.cabinet_text_nodes.specs.declared.leaf.LeafRef.{LeafRef}
 use Rattle.cabinet_text_nodes.specs.declared.line.Step.{Step}
 use Rattle.cabinet_text_nodes.specs.declared.node.Node.{Node}
@@ -48,45 +48,45 @@ FindsFrom wholes from steps result =
 -- ---- setting
 
 -- a leaf is put in the place of a node
-abbrev pub PutsLeaf : (old : Node) → LeafRef → SetAnswer → (new : Node) → Type 0
+abbrev pub PutsLeaf : (old : Node) → LeafRef → EditAnswer → (new : Node) → Type 0
 PutsLeaf old leaf result new = (table : List Tree) → Sets (node_tree table old) [] (lent_leaf leaf) result (node_tree table new)
 
 -- a leaf is set at a path of a tree, in a document that has these wholes
-abbrev pub SetsIn : (wholes : List Node) (old : Tree) → List path.Step → LeafRef → SetAnswer → (new : Tree) → Type 0
+abbrev pub SetsIn : (wholes : List Node) (old : Tree) → List path.Step → LeafRef → EditAnswer → (new : Tree) → Type 0
 SetsIn wholes old steps leaf result new = IsTable (table_of wholes) → IsLegal old → Sets old steps (lent_leaf leaf) result new
 
 -- the same at a path of a node
-abbrev pub SetsInNode : (wholes : List Node) (old : Node) → List Step → LeafRef → SetAnswer → (new : Node) → Type 0
+abbrev pub SetsInNode : (wholes : List Node) (old : Node) → List Step → LeafRef → EditAnswer → (new : Node) → Type 0
 SetsInNode wholes old steps leaf result new =
     SetsIn wholes (node_tree (table_of wholes) old) (path_of steps) leaf result (node_tree (table_of wholes) new)
 
 -- at a path of an option, by its first step and the rest
-abbrev pub SetsInOption : (wholes : List Node) (old : Option (Box Node Global)) → Step → List Step → LeafRef → SetAnswer
+abbrev pub SetsInOption : (wholes : List Node) (old : Option (Box Node Global)) → Step → List Step → LeafRef → EditAnswer
     → (new : Option (Box Node Global)) → Type 0
 SetsInOption wholes old step rest leaf result new =
     SetsIn wholes (node_tree (table_of wholes) (node.Maybe old)) (step_of step ∷ path_of rest) leaf result
     (node_tree (table_of wholes) (node.Maybe new))
 
 -- at a path of a list
-abbrev pub SetsInList : (wholes old : List Node) → Step → List Step → LeafRef → SetAnswer → (new : List Node) → Type 0
+abbrev pub SetsInList : (wholes old : List Node) → Step → List Step → LeafRef → EditAnswer → (new : List Node) → Type 0
 SetsInList wholes old step rest leaf result new =
     SetsIn wholes (tree.list (node_trees (table_of wholes) old)) (step_of step ∷ path_of rest) leaf result
     (tree.list (node_trees (table_of wholes) new))
 
 -- at a path of a map of some kind
-abbrev pub SetsInMap : MapKind → (wholes : List Node) (old : List (String Global × Node)) → Step → List Step → LeafRef → SetAnswer
+abbrev pub SetsInMap : MapKind → (wholes : List Node) (old : List (String Global × Node)) → Step → List Step → LeafRef → EditAnswer
     → (new : List (String Global × Node)) → Type 0
 SetsInMap kind wholes old step rest leaf result new =
     SetsIn wholes (tree.map kind (node_pairs (table_of wholes) old)) (step_of step ∷ path_of rest) leaf result
     (tree.map kind (node_pairs (table_of wholes) new))
 
 -- at a path of a map, whichever its kind is
-abbrev pub SetsInAnyMap : (wholes : List Node) (old : List (String Global × Node)) → Step → List Step → LeafRef → SetAnswer
+abbrev pub SetsInAnyMap : (wholes : List Node) (old : List (String Global × Node)) → Step → List Step → LeafRef → EditAnswer
     → (new : List (String Global × Node)) → Type 0
 SetsInAnyMap wholes old step rest leaf result new = (kind : MapKind) → SetsInMap kind wholes old step rest leaf result new
 
 -- no leaf is set at a path of a whole
-abbrev pub SetsNoneIn : (wholes : List Node) (number : ℕ) → Step → List Step → SetAnswer → Type 0
+abbrev pub SetsNoneIn : (wholes : List Node) (number : ℕ) → Step → List Step → EditAnswer → Type 0
 SetsNoneIn wholes number step rest result =
     IsTable (table_of wholes) → IsLegal (node_tree (table_of wholes) (node.Whole number))
     → (l : tree.Leaf) → Sets (node_tree (table_of wholes) (node.Whole number)) (step_of step ∷ path_of rest) l result

@@ -8,4 +8,5 @@ pub mod Lines
 pub mod NodeTexts
 pub mod Order
 pub mod Outcomes
+pub mod Restructures
 pub mod View

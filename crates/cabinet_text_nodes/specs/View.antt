@@ -9,6 +9,7 @@ use Rattle.cabinet_text_grammar.specs.Wholes.{numbered}
 use Rattle.cabinet_text_grammar.specs.Item as item
 use Rattle.cabinet_text_grammar.specs.Path as path
 use Rattle.cabinet_text_grammar.specs.Line as spec_line
+use Rattle.cabinet_text_grammar.specs.EditLine as spec_edit
 use Rattle.cabinet_text_nodes.specs.declared.node.Node.{Node, fold-Node}
 use Rattle.cabinet_text_nodes.specs.declared.node.Node.TheOpen.{Node-F}
 use Rattle.cabinet_text_nodes.specs.declared.leaf.Leaf.{Leaf}
@@ -23,6 +24,8 @@ use Rattle.cabinet_text_nodes.specs.declared.line.Step.{Step}
 use Rattle.cabinet_text_nodes.specs.declared.line.Step.TheVariants as step
 use Rattle.cabinet_text_nodes.specs.declared.line.Line.{Line}
 use Rattle.cabinet_text_nodes.specs.declared.line.Line.TheVariants as line
+use Rattle.cabinet_text_nodes.specs.declared.line.EditLine.{EditLine}
+use Rattle.cabinet_text_nodes.specs.declared.line.EditLine.TheVariants as edit_line
 
 abbrev pub trees_of : List tree.Tree → tree.Trees
 trees_of [] = tree.no_trees
@@ -152,3 +155,10 @@ line_of (line.Get path) = spec_line.get (path_of path.items)
 line_of (line.Keys path) = spec_line.keys (path_of path.items)
 line_of (line.Range low high path) = spec_line.range (string_bytes low) (string_bytes high) (path_of path.items)
 line_of (line.Set path l) = spec_line.set (path_of path.items) (leaf_of l)
+
+-- a new node has no wholes
+abbrev pub edit_line_of : EditLine → spec_edit.EditLine
+edit_line_of (edit_line.About l) = spec_edit.about (line_of l)
+edit_line_of (edit_line.Put path new) = spec_edit.put_line (path_of path.items) (node_tree [] new)
+edit_line_of (edit_line.Insert path new) = spec_edit.insert_line (path_of path.items) (node_tree [] new)
+edit_line_of (edit_line.Remove path) = spec_edit.remove_line (path_of path.items)

@@ -10,13 +10,14 @@ pub enum Asked {
     Wrong,
 }
 
-/// The outcome of setting a leaf.
+/// The outcome of an edit.
 #[derive(Clone, Copy, Debug, PartialEq, Eq)]
-pub enum SetAnswer {
-    /// The leaf is there now.
+pub enum EditAnswer {
+    /// The document is edited.
     Done,
-    /// The path leads nowhere.
+    /// The path leads nowhere, or nothing can be put or inserted there.
     Missing,
-    /// The node there has another kind, is a text of another length, or is in a whole.
+    /// A leaf that was to be set does not fit the node there, something in a whole was to be edited, a whole would be lost, the
+    /// root was to be removed, or more than 64 containers would lie in one another.
     Refused,
 }

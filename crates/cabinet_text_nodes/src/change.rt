@@ -5,7 +5,7 @@ ghost use Rattle.cabinet_text_nodes.specs.Calls.{PutsLeaf, SetsInNode, SetsInOpt
 ghost use Rattle.cabinet_text_nodes.specs.Answers.{place_by};
 ghost use Rattle.cabinet_text_nodes.specs.View.{node_pairs};
 
-use crate::answer::SetAnswer;
+use crate::answer::EditAnswer;
 use crate::leaf::LeafRef;
 use crate::line::Step;
 use crate::node::Node;
@@ -22,23 +22,23 @@ fn write_over(text: &mut String, new: &str)
 }
 
 /// Puts a leaf in the place of a node.
-fn put_leaf(node: &mut Node, leaf: LeafRef<'_>) -> SetAnswer
+fn put_leaf(node: &mut Node, leaf: LeafRef<'_>) -> EditAnswer
     ensures { PutsLeaf node.old leaf.entry result node.new }
 {
     match (node, leaf) {
         (Node::Bool(there), LeafRef::Bool(value)) => {
             *there = value;
-            SetAnswer::Done
+            EditAnswer::Done
         }
         (Node::Int(there), LeafRef::Int(number)) => {
             *there = number;
-            SetAnswer::Done
+            EditAnswer::Done
         }
         (Node::Text(there), LeafRef::Text(text)) if there.len() == text.len() => {
             write_over(there, text);
-            SetAnswer::Done
+            EditAnswer::Done
         }
-        _ => SetAnswer::Refused,
+        _ => EditAnswer::Refused,
     }
 }
 
@@ -63,14 +63,14 @@ fn change_inside(
     rest: &[Step],
     leaf: LeafRef<'_>,
     wholes: &[Node],
-) -> SetAnswer
+) -> EditAnswer
     ensures { SetsInOption wholes.now content.old step.now rest.now leaf.entry result content.new }
 {
     let Step::Inside = step else {
-        return SetAnswer::Missing;
+        return EditAnswer::Missing;
     };
     let Some(content) = content else {
-        return SetAnswer::Missing;
+        return EditAnswer::Missing;
     };
     change_at(content, rest, leaf, wholes)
 }
@@ -83,15 +83,15 @@ fn change_element(
     rest: &[Step],
     leaf: LeafRef<'_>,
     wholes: &[Node],
-) -> SetAnswer
+) -> EditAnswer
     ensures { SetsInList wholes.now elements.old.items step.now rest.now leaf.entry result elements.new.items }
 {
     let Step::Place(place) = step else {
-        return SetAnswer::Missing;
+        return EditAnswer::Missing;
     };
     match elements.get_mut(*place as usize) {
         Some(element) => change_at(element, rest, leaf, wholes),
-        None => SetAnswer::Missing,
+        None => EditAnswer::Missing,
     }
 }
 
@@ -103,15 +103,15 @@ fn change_value(
     rest: &[Step],
     leaf: LeafRef<'_>,
     wholes: &[Node],
-) -> SetAnswer
+) -> EditAnswer
     ensures { SetsInAnyMap wholes.now map.old.entries step.now rest.now leaf.entry result map.new.entries }
 {
     let Step::Key(key) = step else {
-        return SetAnswer::Missing;
+        return EditAnswer::Missing;
     };
     match map.get_mut(key.as_str()) {
         Some(value) => change_at(value, rest, leaf, wholes),
-        None => SetAnswer::Missing,
+        None => EditAnswer::Missing,
     }
 }
 
@@ -123,28 +123,28 @@ fn change_kept_value(
     rest: &[Step],
     leaf: LeafRef<'_>,
     wholes: &[Node],
-) -> SetAnswer
+) -> EditAnswer
     ensures { SetsInMap kept wholes.now pairs.old.items step.now rest.now leaf.entry result pairs.new.items }
 {
     let Step::Key(key) = step else {
-        return SetAnswer::Missing;
+        return EditAnswer::Missing;
     };
     match place_of(pairs, key.as_str()) {
         Some(place) => change_at(&mut pairs[place].1, rest, leaf, wholes),
-        None => SetAnswer::Missing,
+        None => EditAnswer::Missing,
     }
 }
 
 /// Returns the outcome of setting a leaf at a path that leads through a whole, where nothing is set.
-fn refuse_in_whole(number: u64, step: &Step, rest: &[Step], wholes: &[Node]) -> SetAnswer
+fn refuse_in_whole(number: u64, step: &Step, rest: &[Step], wholes: &[Node]) -> EditAnswer
     ensures { SetsNoneIn wholes.now number step.now rest.now result }
 {
     let Step::Inside = step else {
-        return SetAnswer::Missing;
+        return EditAnswer::Missing;
     };
     match node_in_whole(wholes, number, rest) {
-        Some(_) => SetAnswer::Refused,
-        None => SetAnswer::Missing,
+        Some(_) => EditAnswer::Refused,
+        None => EditAnswer::Missing,
     }
 }
 
@@ -155,7 +155,7 @@ pub(crate) fn change_at(
     path: &[Step],
     leaf: LeafRef<'_>,
     wholes: &[Node],
-) -> SetAnswer
+) -> EditAnswer
     ensures { SetsInNode wholes.now node.old path.now leaf.entry result node.new }
 {
     let Some((step, rest)) = path.split_first() else {
@@ -168,6 +168,6 @@ pub(crate) fn change_at(
         Node::Hashed(map) => change_value(map, step, rest, leaf, wholes),
         Node::Kept(pairs) => change_kept_value(pairs, step, rest, leaf, wholes),
         Node::Whole(number) => refuse_in_whole(*number, step, rest, wholes),
-        _ => SetAnswer::Missing,
+        _ => EditAnswer::Missing,
     }
 }

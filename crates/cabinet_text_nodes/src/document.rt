@@ -3,21 +3,25 @@ ghost use Rattle.std.specs.Prelude.{◌≡◌, [], IfOk, IfErr};
 ghost use Rattle.cabinet_text_grammar.specs.Wholes.{wholes_of, IsDocument};
 ghost use Rattle.cabinet_text_grammar.specs.Answering.{answer, change};
 ghost use Rattle.cabinet_text_grammar.specs.Line.{set};
+ghost use Rattle.cabinet_text_grammar.specs.Restructuring.{put, insert, remove};
 ghost use Rattle.cabinet_text_nodes.specs.Calls.{FindsNode, HasWholes};
 ghost use Rattle.cabinet_text_nodes.specs.Faults.{IsRefusedFor, IsRefusedTable};
 ghost use Rattle.cabinet_text_nodes.specs.Outcomes.{outcome_of};
+ghost use Rattle.cabinet_text_nodes.specs.Restructures.{Becomes, BecomesOrStays, IsRootAlone};
 ghost use Rattle.cabinet_text_nodes.specs.View.{node_tree, table_of, entries_of, leaf_of, path_of};
 
-use crate::answer::SetAnswer;
+use crate::answer::EditAnswer;
 use crate::change::change_at;
 use crate::fault::fault_of;
 use crate::leaf::Leaf;
 use crate::line::Step;
 use crate::node::Node;
 use crate::refusal::DocumentRefusal;
+use crate::restructuring::{Edit, edit_at, replace_root};
 use crate::table::refusal_of;
 use crate::walk::node_at;
 use cabinet_text_grammar::MAX_DEPTH;
+use std::alloc::{AllocError, Global};
 use std::marker::Model;
 
 /// A document: a root of at most 64 containers in one another, whose kept maps have distinct keys, and the trees of its
@@ -126,11 +130,85 @@ impl Document {
     }
 
     /// Puts a leaf at a path, in the place of a leaf that it fits. It allocates no memory.
-    pub fn change(&mut self, path: &[Step], leaf: &Leaf) -> SetAnswer
+    pub fn change(&mut self, path: &[Step], leaf: &Leaf) -> EditAnswer
         ensures answer { outcome_of result ≡ answer self.old
             (set (path_of path.now) (leaf_of leaf.now)) }
         ensures document { self.new ≡ change self.old (path_of path.now) (leaf_of leaf.now) }
     {
         change_at(&mut self.root, path, leaf.as_ref(), entries(&self.wholes))
+    }
+
+    /// Returns the root of a document without wholes.
+    fn into_root(self) -> Node
+        requires { wholes_of self ≡ [] }
+        ensures { IsRootAlone self result }
+    {
+        self.root
+    }
+
+    /// Puts the root of a document without wholes at a path: in the place of the node there, in which no whole may lie, under
+    /// a new key, after the last element of a list, or in an empty option. A new key of an ordered or a hashed map is placed
+    /// in the order of the keys, and one of a kept map last. An `Err` says that an allocation failed, and that nothing changed.
+    pub fn put(
+        &mut self,
+        alloc: Global,
+        path: &[Step],
+        new: Document,
+    ) -> Result<EditAnswer, AllocError>
+        requires { wholes_of new ≡ [] }
+        ensures { BecomesOrStays (put self.old (path_of path.now) new) result self.old self.new }
+    {
+        let root = new.into_root();
+        let wholes = entries(&self.wholes);
+        match path.split_first() {
+            Some((step, rest)) => edit_at(
+                &mut self.root,
+                step,
+                rest,
+                0,
+                Edit::Put(alloc, root),
+                wholes,
+            ),
+            None => Ok(replace_root(&mut self.root, root, wholes)),
+        }
+    }
+
+    /// Inserts the root of a document without wholes before the element at a place of a list, or after the last. An `Err` says
+    /// that an allocation failed, and that nothing changed.
+    pub fn insert(&mut self, path: &[Step], new: Document) -> Result<EditAnswer, AllocError>
+        requires { wholes_of new ≡ [] }
+        ensures { BecomesOrStays (insert self.old (path_of path.now) new) result self.old self.new }
+    {
+        let root = new.into_root();
+        let Some((step, rest)) = path.split_first() else {
+            return Ok(EditAnswer::Missing);
+        };
+        edit_at(
+            &mut self.root,
+            step,
+            rest,
+            0,
+            Edit::Insert(root),
+            entries(&self.wholes),
+        )
+    }
+
+    /// Takes the node that a path leads to out of its map, list or option. No whole may lie in it. It allocates no memory.
+    pub fn remove(&mut self, path: &[Step]) -> EditAnswer
+        ensures { Becomes (remove self.old (path_of path.now)) result self.old self.new }
+    {
+        let Some((step, rest)) = path.split_first() else {
+            return EditAnswer::Refused;
+        };
+        let answer = edit_at(
+            &mut self.root,
+            step,
+            rest,
+            0,
+            Edit::Remove,
+            entries(&self.wholes),
+        );
+        // a removal takes no memory, so that there is an answer
+        answer.unwrap_or(EditAnswer::Missing)
     }
 }

@@ -4,6 +4,7 @@ ghost use Rattle.cabinet_text_nodes.specs.Lines.{IsQuestion};
 ghost use Rattle.cabinet_text_nodes.specs.View.{line_of};
 
 use crate::leaf::Leaf;
+use crate::node::Node;
 use thiserror::Error;
 
 /// A step down a document, from a node to one inside it.
@@ -35,6 +36,19 @@ pub enum Line {
         path: Vec<Step>,
         leaf: Leaf,
     },
+}
+
+/// A line of a session in which documents grow.
+#[derive(Debug, Drop)]
+pub enum EditLine {
+    /// Requests a part of the document, or sets a leaf.
+    About(Line),
+    /// Puts a node at a path.
+    Put { path: Vec<Step>, node: Node },
+    /// Inserts a node before the element at a path, or after the last.
+    Insert { path: Vec<Step>, node: Node },
+    /// Removes the node at a path.
+    Remove(Vec<Step>),
 }
 
 /// The error of reading bytes as a line.

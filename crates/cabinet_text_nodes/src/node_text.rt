@@ -11,7 +11,7 @@ use std::collections::BTreeMap;
 use std::rc::RcStr;
 
 /// The text of a node in two parts: its lines, in which each shared text is empty, and the shared texts in the order of
-/// their lines. No two nodes of one document have the same parts. A shared text lies there as a pointer, so that the
+/// their lines. Nodes of one document with the same parts are equal. A shared text is kept as a pointer, so that the
 /// memory is in proportion to the node, however long its shared texts are.
 #[derive(PartialEq, Eq, PartialOrd, Ord, Drop)]
 pub struct NodeText {

@@ -1,52 +1,95 @@
 -- Lines cut into their words, and the errors of reading them.
-use Rattle.std.proofs.Common.{◌≡◌, ◌≢◌, ℕ, ◌-◌, List, [], ◌∷◌, ◌++◌, length, take, drop, sym, ap, ◌∙◌, ◌⊎◌, inl, inr, ⊎_elim, refl, arith, append_assoc, append-nil, length-append, codes, All, None, Some}
+use Rattle.std.proofs.Common.{◌≡◌, ◌≢◌, ℕ, ◌-◌, List, [], ◌∷◌, ◌++◌, length, get_or, take, drop, sym, subst, ap, ◌∙◌, ◌⊎◌, inl, inr, ⊎_elim, refl, arith, append_assoc, append-nil, length-append, codes, All, None, Some}
+use Rattle.std.specs.Prelude.{◌==◌}
+use Rattle.std.proofs.lemmas.Bool.{false≢true}
 use Rattle.std.proofs.lemmas.List.{append_cancel_left}
 use Rattle.std.proofs.lemmas.List.Elements.{All-cons}
 use Rattle.std.proofs.Math.Seq.{take-append_seam, drop-append_seam}
 use Rattle.cabinet_text_bytes.specs.Words.{IsEscaped, HasNoSpace, IsAtSpace}
 use Rattle.cabinet_text_grammar.specs.Tree.{Leaf, text, IsLeaf}
-use Rattle.cabinet_text_grammar.specs.Spelling.{escaped, spelled_leaf}
+use Rattle.cabinet_text_grammar.specs.Tree as tree
+use Rattle.cabinet_text_grammar.specs.Answering.{head_of}
+use Rattle.cabinet_text_grammar.specs.Spelling.{escaped, spelled, spelled_leaf}
 use Rattle.cabinet_text_grammar.specs.Path.{Step, key}
 use Rattle.cabinet_text_grammar.specs.Line.{Line, get, keys, range, set, IsPossible, IsStep, Says, spelled_path, spelling}
 use Rattle.cabinet_text_grammar.proofs.Escapes.{rest_same, first_differs}
-use Rattle.cabinet_text_grammar.proofs.Lines.{TwoWords, two_words}
+use Rattle.cabinet_text_grammar.proofs.Lacking.{Lacks-tested}
+use Rattle.cabinet_text_grammar.proofs.Lines.{TwoWords}
+use Rattle.cabinet_text_grammar.proofs.EditLines.{head_words}
 use Rattle.cabinet_text_nodes.specs.declared.line.LineRefusal.{LineRefusal}
 use Rattle.cabinet_text_nodes.specs.declared.line.LineRefusal.TheVariants.{Bad, OutOfMemory}
-use Rattle.cabinet_text_reading.specs.Parts.{IsPath, BeginsWithWord, BeginsByKey, IsCutAfterLeaf, RefusesPath, RefusesLeaf}
+use Rattle.cabinet_text_reading.specs.Parts.{IsPath, BeginsWithWord, BeginsByKey, IsCutAfterHead, RefusesPath, RefusesLeaf}
 use Rattle.cabinet_text_reading.specs.Reading.{HasSteps, TakesMemory, RefusesLine}
-use Rattle.cabinet_text_reading.proofs.Paths.{one_word, same_words, IsAtSpace-path, Lacks-from_HasNoSpace, cut_after_word}
+use Rattle.cabinet_text_reading.proofs.Paths.{one_word, same_cut, same_words, IsAtSpace-path, Lacks-from_HasNoSpace, cut_after_word}
 
--- where no second word begins, no leaf is spelled
-pub one_word_cut : (bytes word spaced sign : List ℕ) → bytes ≡ word ++ spaced → HasNoSpace word → IsAtSpace spaced → sign ≡ codes " " → ((rest : List ℕ) → spaced ≢ sign ++ rest) → IsCutAfterLeaf bytes bytes []
-one_word_cut bytes word [] sign whole lacks space e none = λ l path p h.
-    absurd (one_word word (spelled_leaf l) (spelled_path path) (Lacks-from_HasNoSpace word lacks) (two_words l p) (sym (append-nil word) ∙ sym whole ∙ h))
-one_word_cut bytes word (b ∷ rest) sign whole lacks space e none =
-    absurd (none rest (ap (λ x. x ∷ rest) space ∙ ap (λ w. w ++ rest) (sym e)))
+-- the head of an option without a node, before a path
+none_words :
+    (word spaced : List ℕ) (path : List Step) → HasNoSpace word → IsAtSpace spaced
+    → word ++ spaced ≡ codes "none" ++ spelled_path path → (word ≡ codes "none") × (spaced ≡ spelled_path path)
+none_words word spaced path lacks space h =
+    same_cut word (codes "none") spaced (spelled_path path) (Lacks-from_HasNoSpace word lacks) (Lacks-tested 32 (codes "none") refl) space
+    (IsAtSpace-path path) h
+
+pub none_cut :
+    (bytes word spaced : List ℕ) → bytes ≡ word ++ spaced → HasNoSpace word → IsAtSpace spaced
+    → word ≡ codes "none" → IsCutAfterHead bytes word spaced
+none_cut bytes word spaced whole lacks space is = λ t path p h.
+    elim (head_words t p) [
+      | inl none ↦
+          let cut = none_words word spaced path lacks space (sym whole ∙ h ∙ ap (λ u. spelled (head_of u) ++ spelled_path path) none) in
+          (cut.0 ∙ ap (λ u. spelled (head_of u)) (sym none), cut.1)
+      | inr w ↦
+          let after = 32 ∷ (w.0.argument ++ spelled_path path) in
+          let two = ap (λ v. v ++ spelled_path path) w.0.spelled ∙ append_assoc w.0.word (32 ∷ w.0.argument) (spelled_path path) in
+          let cut = same_cut word w.0.word spaced after (Lacks-from_HasNoSpace word lacks) w.0.first_word space refl (sym whole ∙ h ∙ two) in
+          absurd (false≢true (sym w.1 ∙ ap (λ v. get_or v 0 0 == 110) (sym cut.0 ∙ is)))
+    ]
+
+-- where no second word begins, no other head is spelled
+pub one_word_cut :
+    (bytes word spaced sign : List ℕ) → bytes ≡ word ++ spaced → HasNoSpace word → IsAtSpace spaced → word ≢ codes "none"
+    → sign ≡ codes " " → ((rest : List ℕ) → spaced ≢ sign ++ rest) → IsCutAfterHead bytes bytes []
+one_word_cut bytes word [] sign whole lacks space other e no_second = λ t path p h.
+    elim (head_words t p) [
+      | inl none ↦ absurd (other (none_words word [] path lacks tt (sym whole ∙ h ∙ ap (λ u. spelled (head_of u) ++ spelled_path path) none)).0)
+      | inr w ↦
+          let is = sym (append-nil word) ∙ sym whole ∙ h in
+          absurd (one_word word (spelled (head_of t)) (spelled_path path) (Lacks-from_HasNoSpace word lacks) w.0 is)
+    ]
+one_word_cut bytes word (b ∷ rest) sign whole lacks space other e no_second =
+    absurd (no_second rest (ap (λ x. x ∷ rest) space ∙ ap (λ w. w ++ rest) (sym e)))
 
 -- two words before a path, cut where the path begins
 pub two_words_cut :
     (bytes word spaced sign after argument path front back : List ℕ) (n : ℕ)
-    → bytes ≡ word ++ spaced → spaced ≡ sign ++ after → sign ≡ codes " " → after ≡ argument ++ path
+    → bytes ≡ word ++ spaced → word ≢ codes "none" → spaced ≡ sign ++ after → sign ≡ codes " " → after ≡ argument ++ path
     → HasNoSpace word → HasNoSpace argument → IsAtSpace path
     → front ≡ take n bytes → back ≡ drop n bytes → n ≡ length bytes - length path
-    → IsCutAfterLeaf bytes front back
-two_words_cut bytes word spaced sign after argument path front back n whole rest_is e after_is first second space front_is back_is size =
-    let leaf = word ++ 32 ∷ argument in
-    let spelled : bytes ≡ leaf ++ path =
-    whole ∙ ap (λ w. word ++ w) (rest_is ∙ ap (λ w. w ++ after) e ∙ ap (λ w. 32 ∷ w) after_is) ∙ sym (append_assoc word (32 ∷ argument) path) in
-    let words : TwoWords leaf = record {
+    → IsCutAfterHead bytes front back
+two_words_cut bytes word spaced sign after argument path front back n whole other rest_is e after_is first second space front_is back_is size =
+    let head = word ++ 32 ∷ argument in
+    let at_space : spaced ≡ 32 ∷ after = rest_is ∙ ap (λ w. w ++ after) e in
+    let spelled_is : bytes ≡ head ++ path =
+    whole ∙ ap (λ w. word ++ w) (at_space ∙ ap (λ w. 32 ∷ w) after_is) ∙ sym (append_assoc word (32 ∷ argument) path) in
+    let words : TwoWords head = record {
       word = word;
       argument = argument;
       spelled = refl;
       first_word = Lacks-from_HasNoSpace word first;
       second_word = Lacks-from_HasNoSpace argument second;
     } in
-    let seam : n ≡ length leaf = omega (arith, ap length spelled, length-append leaf path) in
-    let front_same : front ≡ leaf = front_is ∙ ap (λ w. take n w) spelled ∙ ap (λ k. take k (leaf ++ path)) seam ∙ take-append_seam leaf path in
-    let back_same : back ≡ path = back_is ∙ ap (λ w. drop n w) spelled ∙ ap (λ k. drop k (leaf ++ path)) seam ∙ drop-append_seam leaf path in
-    λ l steps p h.
-    let same = same_words leaf (spelled_leaf l) path (spelled_path steps) words (two_words l p) space (IsAtSpace-path steps) (sym spelled ∙ h) in
-    (front_same ∙ same.0, back_same ∙ same.1)
+    let seam : n ≡ length head = omega (arith, ap length spelled_is, length-append head path) in
+    let front_same : front ≡ head = front_is ∙ ap (λ w. take n w) spelled_is ∙ ap (λ k. take k (head ++ path)) seam ∙ take-append_seam head path in
+    let back_same : back ≡ path = back_is ∙ ap (λ w. drop n w) spelled_is ∙ ap (λ k. drop k (head ++ path)) seam ∙ drop-append_seam head path in
+    λ t steps p h.
+    elim (head_words t p) [
+      | inl none ↦
+          let is = sym whole ∙ h ∙ ap (λ u. spelled (head_of u) ++ spelled_path steps) none in
+          absurd (other (none_words word spaced steps first (subst IsAtSpace (sym at_space) refl) is).0)
+      | inr w ↦
+          let same = same_words head (spelled (head_of t)) path (spelled_path steps) words w.0 space (IsAtSpace-path steps) (sym spelled_is ∙ h) in
+          (front_same ∙ same.0, back_same ∙ same.1)
+    ]
 
 -- bytes that do not begin with a word, for an equal word
 pub not_after : (bytes sign word : List ℕ) → sign ≡ word → ((rest : List ℕ) → bytes ≢ sign ++ rest) → (rest : List ℕ) → bytes ≢ word ++ rest
@@ -63,7 +106,7 @@ no_line bytes no_get no_keys no_range no_set (keys path) p h = no_keys (spelled_
 no_line bytes no_get no_keys no_range no_set (range low high path) p h = no_range (spelled_path (key low ∷ key high ∷ path)) h
 no_line bytes no_get no_keys no_range no_set (set path l) p h = no_set (spelled_leaf l ++ spelled_path path) h
 
-has_steps : (bytes : List ℕ) (path : List Step) → bytes ≡ spelled_path path → bytes ≢ [] → HasSteps path
+pub has_steps : (bytes : List ℕ) (path : List Step) → bytes ≡ spelled_path path → bytes ≢ [] → HasSteps path
 has_steps bytes [] h some = absurd (some h)
 has_steps bytes (step ∷ path) h some = tt
 
@@ -118,7 +161,7 @@ only_range bytes (range low high path) p h = record {
 only_range bytes (set path l) p h = absurd (first_differs refl h)
 
 -- bytes are the escaped form of a text that is not empty
-not_empty : (bytes t : List ℕ) → bytes ≡ escaped t → bytes ≢ [] → t ≢ []
+pub not_empty : (bytes t : List ℕ) → bytes ≡ escaped t → bytes ≢ [] → t ≢ []
 not_empty bytes t e some none = some (e ∙ ap escaped none)
 
 -- the bounds and the path of a range, where its first two words are cut
@@ -195,21 +238,21 @@ record IsEdit (front rest : List ℕ) : Type 0 where
   pub spelled : front ≡ spelled_leaf leaf
   pub path : IsPath rest
 
-only_set : (bytes front rest : List ℕ) → IsCutAfterLeaf bytes front rest → (line : Line) → IsPossible line → codes "set " ++ bytes ≡ spelling line → IsEdit front rest
+only_set : (bytes front rest : List ℕ) → IsCutAfterHead bytes front rest → (line : Line) → IsPossible line → codes "set " ++ bytes ≡ spelling line → IsEdit front rest
 only_set bytes front rest cut (get path) p h = absurd (first_differs refl h)
 only_set bytes front rest cut (keys path) p h = absurd (first_differs refl h)
 only_set bytes front rest cut (range low high path) p h = absurd (first_differs refl h)
 only_set bytes front rest cut (set path l) p h =
-    let both = cut l path p.1 (append_cancel_left (codes "set ") _ _ h) in
+    let both = cut (tree.leaf l) path p.1 (append_cancel_left (codes "set ") _ _ h) in
     record { leaf = l; possible = p.1; spelled = both.0; path = (path, p.0, both.1) }
 
 -- the path of an edit is refused, whose leaf is read
-pub edit_path_refused : (bytes front rest : List ℕ) (l : Leaf) (refusal : LineRefusal) → bytes ≡ front ++ rest → IsCutAfterLeaf bytes front rest → IsLeaf l → front ≡ spelled_leaf l → RefusesPath rest refusal → RefusesLine (codes "set " ++ bytes) refusal
+pub edit_path_refused : (bytes front rest : List ℕ) (l : Leaf) (refusal : LineRefusal) → bytes ≡ front ++ rest → IsCutAfterHead bytes front rest → IsLeaf l → front ≡ spelled_leaf l → RefusesPath rest refusal → RefusesLine (codes "set " ++ bytes) refusal
 edit_path_refused bytes front rest l Bad whole cut p e none = λ line q h. none (only_set bytes front rest cut line q h).path
 edit_path_refused bytes front rest l OutOfMemory whole cut p e (path, some) = no_memory_for_edit bytes front rest l whole p e path some
 
 -- the leaf of an edit is refused, or memory for it where the rest is no path
-pub no_edit : (bytes front rest : List ℕ) → IsCutAfterLeaf bytes front rest → ((l : Leaf) → IsLeaf l → front ≡ spelled_leaf l → IsPath rest → ⊥) → Says (codes "set " ++ bytes) None
+pub no_edit : (bytes front rest : List ℕ) → IsCutAfterHead bytes front rest → ((l : Leaf) → IsLeaf l → front ≡ spelled_leaf l → IsPath rest → ⊥) → Says (codes "set " ++ bytes) None
 no_edit bytes front rest cut none = λ line p h.
     let edit = only_set bytes front rest cut line p h in
     none edit.leaf edit.possible edit.spelled edit.path

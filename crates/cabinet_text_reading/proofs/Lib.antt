@@ -2,6 +2,7 @@ pub mod Ascending
 pub mod Causes
 pub mod Compared
 pub mod Cuts
+pub mod EditLineLemmas
 pub mod Filling
 pub mod Found
 pub mod Header

@@ -1,3 +1,4 @@
+pub mod Added
 pub mod Ascending
 pub mod Calls
 pub mod Causes

@@ -2,9 +2,11 @@
 use Rattle.std.specs.Prelude.{◌≡◌, ◌≢◌, ℕ, ◌<◌, ◌^◌, List, [], ◌∷◌, ◌++◌, codes, All, IsUtf8}
 use Rattle.std.specs.Fmt.{decimal}
 use Rattle.cabinet_text_bytes.specs.Words.{IsEscaped, HasNoSpace, IsAtSpace}
-use Rattle.cabinet_text_grammar.specs.Tree.{Leaf, IsLeaf}
-use Rattle.cabinet_text_grammar.specs.Spelling.{escaped, spelled_leaf}
+use Rattle.cabinet_text_grammar.specs.Tree.{Leaf, IsLeaf, Tree}
+use Rattle.cabinet_text_grammar.specs.Spelling.{escaped, spelled, spelled_leaf}
 use Rattle.cabinet_text_grammar.specs.Path.{Step, key}
+use Rattle.cabinet_text_grammar.specs.Answering.{head_of}
+use Rattle.cabinet_text_grammar.specs.EditLine.{IsAlone}
 use Rattle.cabinet_text_grammar.specs.Line.{IsStep, spelled_step, spelled_path}
 use Rattle.cabinet_text_nodes.specs.declared.line.LineRefusal.{LineRefusal}
 use Rattle.cabinet_text_nodes.specs.declared.line.LineRefusal.TheVariants.{Bad, OutOfMemory}
@@ -41,11 +43,11 @@ pub record BeginsWithWord (bytes word rest : List ℕ) : Type 0 where
 abbrev pub BeginsByKey : List ℕ → Type 0
 BeginsByKey bytes = (k : List ℕ) × (path : List Step) × IsUtf8 k × All IsStep path × (bytes ≡ spelled_path (key k ∷ path))
 
--- where bytes are the spellings of a leaf and of a path after it, the leaf's are `front` and the path's are `rest`
-abbrev pub IsCutAfterLeaf : List ℕ → List ℕ → List ℕ → Type 0
-IsCutAfterLeaf bytes front rest =
-    (l : Leaf) (path : List Step)
-    → IsLeaf l → bytes ≡ spelled_leaf l ++ spelled_path path → (front ≡ spelled_leaf l) × (rest ≡ spelled_path path)
+-- where bytes are the spellings of a node's head and of a path after it, the head's are `front` and the path's are `rest`
+abbrev pub IsCutAfterHead : List ℕ → List ℕ → List ℕ → Type 0
+IsCutAfterHead bytes front rest =
+    (t : Tree) (path : List Step)
+    → IsAlone t → bytes ≡ spelled (head_of t) ++ spelled_path path → (front ≡ spelled (head_of t)) × (rest ≡ spelled_path path)
 
 -- the bytes are no step; memory is refused only for a step
 abbrev pub RefusesStep : List ℕ → LineRefusal → Type 0

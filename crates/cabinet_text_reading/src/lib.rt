@@ -4,7 +4,7 @@
 mod lines;
 mod stack;
 
-pub use lines::read_line;
+pub use lines::{read_edit_line, read_line};
 pub use stack::{
     AscendingKeyed, AscendingPairs, Due, Frame, KeptKeyed, KeptPairs, Keyed, Next, OpenMap, Pairs,
     cmp_escaped, take_head, take_key,

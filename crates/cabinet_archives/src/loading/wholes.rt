@@ -60,8 +60,8 @@ impl LoadedWholes {
     }
 
     /// Returns the number of the whole with the tree of a node, which is added unless a whole has an equal one. Equal trees
-    /// have equal texts: the time grows with the size of the text and the logarithm of the number of wholes. The memory is
-    /// in proportion to the node, however long its shared texts are.
+    /// have equal texts: the time grows with the sizes of the node and of its shared texts, and with the logarithm of the
+    /// number of wholes. The memory is in proportion to the node, however long its shared texts are.
     pub(crate) fn share(&mut self, alloc: Global, node: Node) -> Result<u64, AllocError>
         requires legal { IsLegal (node_tree (loaded_table self.old) node) }
         requires low { depth (node_tree (loaded_table self.old) node) < 64 }

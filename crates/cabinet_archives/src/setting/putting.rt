@@ -11,11 +11,11 @@ ghost use Rattle.cabinet_archives.specs.Putting.{PutLeaves};
 use archive_forms_values::ArchivedString;
 use archive_shape::{ArchivedI64, Ref, Seal};
 use cabinet_archived::{ArchivedKind, ArchivedNode};
-use cabinet_text_nodes::{LeafRef, SetAnswer};
+use cabinet_text_nodes::{EditAnswer, LeafRef};
 
 /// Writes a leaf in the place of the node at `pos`, if the node is a leaf of the same kind and, for a text, of the same
 /// length.
-pub(crate) fn put_leaf(bytes: &mut [u8], pos: usize, leaf: LeafRef<'_>) -> SetAnswer
+pub(crate) fn put_leaf(bytes: &mut [u8], pos: usize, leaf: LeafRef<'_>) -> EditAnswer
     requires { HasValue node_shape KnowsNode bytes.old pos }
     ensures answer { OfDocument bytes.old pos
         (λ t. outcome_of result ≡ outcome_there (lent_leaf leaf.entry) t) }
@@ -25,21 +25,21 @@ pub(crate) fn put_leaf(bytes: &mut [u8], pos: usize, leaf: LeafRef<'_>) -> SetAn
         (ArchivedKind::Bool(there), LeafRef::Bool(value)) => {
             let start = there.pos();
             Seal::<bool>::new(bytes, start).write(value);
-            SetAnswer::Done
+            EditAnswer::Done
         }
         (ArchivedKind::Int(there), LeafRef::Int(number)) => {
             let start = there.pos();
             Seal::<ArchivedI64>::new(bytes, start).write(number);
-            SetAnswer::Done
+            EditAnswer::Done
         }
         (ArchivedKind::Text(there), LeafRef::Text(text)) => {
             if ArchivedString::len(there) != text.len() {
-                return SetAnswer::Refused;
+                return EditAnswer::Refused;
             }
             let start = there.pos();
             ArchivedString::write_text(Seal::new(bytes, start), text);
-            SetAnswer::Done
+            EditAnswer::Done
         }
-        _ => SetAnswer::Refused,
+        _ => EditAnswer::Refused,
     }
 }

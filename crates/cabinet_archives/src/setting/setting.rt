@@ -15,12 +15,12 @@ use archive_core_validation::root_position;
 use archive_hash_probing::Scan;
 use archive_shape::Ref;
 use cabinet_archived::ArchivedNode;
-use cabinet_text_nodes::{Leaf, SetAnswer, Step};
+use cabinet_text_nodes::{EditAnswer, Leaf, Step};
 
 /// Writes a leaf at a path of the document that the bytes are the archive of, if the node there is a leaf of the same
 /// kind and, for a text, of the same length. What lies in a whole stays, since it may have other places too. Reads only the
 /// nodes on the path, and does not allocate. The caller chooses the scan `G`, by which keys of hashed maps are looked up.
-pub fn set<G: Scan>(bytes: &mut [u8], path: &[Step], leaf: &Leaf) -> SetAnswer
+pub fn set<G: Scan>(bytes: &mut [u8], path: &[Step], leaf: &Leaf) -> EditAnswer
     requires { ∥ ((t : Tree) × Accepted bytes.old t) ∥₁ }
     ensures answer { (t : Tree) → Accepted bytes.old t
         → outcome_of result ≡ answer t (line.set (path_of path.now) (leaf_of leaf.now)) }
@@ -37,10 +37,10 @@ pub fn set<G: Scan>(bytes: &mut [u8], path: &[Step], leaf: &Leaf) -> SetAnswer
     let new = leaf.as_ref();
     let root = root_position::<ArchivedNode>(bytes.len());
     let Some(found) = find_counted::<G>(Ref::new(bytes, root), path).0 else {
-        return SetAnswer::Missing;
+        return EditAnswer::Missing;
     };
     if found.in_whole {
-        return SetAnswer::Refused;
+        return EditAnswer::Refused;
     }
     let pos = found.node.pos();
     put_leaf(bytes, pos, new)

@@ -8,7 +8,7 @@ ghost use Rattle.cabinet_text_grammar.specs.Spelling.{spelled};
 ghost use Rattle.cabinet_text_nodes.specs.Answers.{Tells};
 ghost use Rattle.cabinet_text_nodes.specs.Outcomes.{outcome_of};
 
-use crate::answer::{Asked, SetAnswer};
+use crate::answer::{Asked, EditAnswer};
 use archive_shape_layout::{Error, Writer, write_two_pieces};
 use cabinet_text_bytes::{Decimal, write_escaped};
 
@@ -74,13 +74,13 @@ pub fn write_bad<W: Writer>(writer: &mut W) -> Result<(), Error>
 }
 
 /// Writes the answer to an edit.
-pub fn write_outcome<W: Writer>(outcome: SetAnswer, writer: &mut W) -> Result<(), Error>
+pub fn write_outcome<W: Writer>(outcome: EditAnswer, writer: &mut W) -> Result<(), Error>
     requires { W.failures writer.old < 2 ^ 64 - 1 }
     ensures { Writes W.Writer writer.old writer.new (spelled_answer (outcome_of outcome)) result }
 {
     match outcome {
-        SetAnswer::Done => writer.write(b"ok\n"),
-        SetAnswer::Missing => write_missing(writer),
-        SetAnswer::Refused => writer.write(b"refused\n"),
+        EditAnswer::Done => writer.write(b"ok\n"),
+        EditAnswer::Missing => write_missing(writer),
+        EditAnswer::Refused => writer.write(b"refused\n"),
     }
 }

@@ -1,9 +1,9 @@
-//! Reads leaves in lines: where one ends, and the leaf that bytes represent.
+//! Reads leaves in lines: where the head of a node ends, and the leaf that bytes represent.
 ghost use Rattle.std.specs.Prelude.{◌≡◌, ◌++◌, IsUtf8, IfOk, IfErr, string_bytes};
 ghost use Rattle.cabinet_text_grammar.specs.Tree.{IsLeaf};
 ghost use Rattle.cabinet_text_grammar.specs.Spelling.{escaped, spelled_leaf};
 ghost use Rattle.cabinet_text_nodes.specs.View.{leaf_of};
-ghost use Rattle.cabinet_text_reading.specs.Parts.{IsCutAfterLeaf, RefusesLeaf, RefusesText};
+ghost use Rattle.cabinet_text_reading.specs.Parts.{IsCutAfterHead, RefusesLeaf, RefusesText};
 
 use cabinet_text_bytes::{after_prefix, read_number, read_truth, split_word, try_unescape};
 use cabinet_text_nodes::{Leaf, LineRefusal};
@@ -51,12 +51,16 @@ pub(crate) fn read_leaf(alloc: Global, bytes: &[u8]) -> Result<Leaf, LineRefusal
     Ok(Leaf::Bool(value))
 }
 
-/// Splits the bytes after `set ` where their leaf ends: after a word, a space and another word.
-pub(crate) fn split_leaf(bytes: &[u8]) -> (&[u8], &[u8])
+/// Splits the bytes after `set `, `put ` or `insert ` where the head of their node ends: after `none`, or after a word, a
+/// space and another word.
+pub(crate) fn split_head(bytes: &[u8]) -> (&[u8], &[u8])
     ensures whole { bytes.now ≡ result.0.now ++ result.1.now }
-    ensures cut { IsCutAfterLeaf bytes.now result.0.now result.1.now }
+    ensures cut { IsCutAfterHead bytes.now result.0.now result.1.now }
 {
-    let (_, spaced) = split_word(bytes);
+    let (word, spaced) = split_word(bytes);
+    if word == b"none".as_slice() {
+        return (word, spaced);
+    }
     let Some(argument) = after_prefix(spaced, b" ".as_slice()) else {
         return (bytes, &[]);
     };

@@ -4,7 +4,7 @@ ghost use Rattle.cabinet_text_grammar.specs.Line.{Says};
 ghost use Rattle.cabinet_text_nodes.specs.View.{line_of};
 ghost use Rattle.cabinet_text_reading.specs.Reading.{RefusesLine};
 
-use crate::lines::leaf::{read_argument, read_leaf, split_leaf};
+use crate::lines::leaf::{read_argument, read_leaf, split_head};
 use crate::lines::path::{is_path, next_key, read_path};
 use cabinet_text_bytes::{after_prefix, is_escaped};
 use cabinet_text_nodes::{Line, LineRefusal};
@@ -52,7 +52,7 @@ fn read_edit(alloc: Global, bytes: &[u8]) -> Result<Line, LineRefusal>
     ensures said { IfOk result (λ line. Says (codes "set " ++ bytes.now) (Some (line_of line))) }
     ensures refused { IfErr result (RefusesLine (codes "set " ++ bytes.now)) }
 {
-    let (spelled, path) = split_leaf(bytes);
+    let (spelled, path) = split_head(bytes);
     let leaf = match read_leaf(alloc, spelled) {
         Ok(leaf) => leaf,
         Err(LineRefusal::Bad) => return Err(LineRefusal::Bad),
