@@ -1,5 +1,5 @@
 //! Texts of documents in plain Rust, read from the standard input and written back, with which bench/text.sh compares
-//! cabinet_text_copy. The same texts are refused, for the same line and by the same cause.
+//! cabinet_text_session. The same texts are refused, for the same line and by the same cause.
 
 use std::collections::{BTreeMap, BTreeSet};
 use std::fmt;

@@ -1,6 +1,6 @@
 #!/usr/bin/env bash
 # Usage: bench/text.sh [LEAVES]. Copies the texts of four documents, of 1,000,000 leaves each unless LEAVES is given,
-# with cabinet_text_copy, with bench/plain_text.rs, the same program in plain Rust, for the same processor, and, if jq
+# with cabinet_text_session, with bench/plain_text.rs, which does the same in plain Rust, for the same processor, and, if jq
 # is installed, with jq -c . the same documents as JSON. Prints the least processor time of five runs, taken in turns,
 # the ratios, and, if valgrind is installed, the instructions for a tenth of the leaves. The last line is the time for
 # 30 wholes, each a list that has the one before it twice, which hold 2^30 leaves when each use is counted.
@@ -10,11 +10,11 @@ root=$(cd "$(dirname "$0")/.." && pwd)
 source "$root/bench/documents.sh"
 work=$(mktemp -d)
 trap 'rm -rf "$work"' EXIT
-copy=$root/crates/cabinet_text_copy/out/cabinet_text_copy
+copy=$root/crates/cabinet_text_session/out/cabinet_text_session
 
 # Without its stamp the program is built again, and the log names the processor.
 rm -f "${copy}.stamp"
-if ! (cd "$root/crates/cabinet_text_copy" && rt run) > "$work/log" 2>&1 < "$root/crates/cabinet_text_copy/stdin"; then
+if ! (cd "$root/crates/cabinet_text_session" && rt run) > "$work/log" 2>&1 < "$root/crates/cabinet_text_session/stdin"; then
     cat "$work/log"
     exit 1
 fi
@@ -51,14 +51,20 @@ instructions() {
         sed -n 's/.*Collected : \([0-9]*\)...$/\1/p'
 }
 
+# makes the section in which the program writes the file text again
+ask() {
+    { echo copy; cat text; } > section
+}
+
 echo "$leaves leaves, for the processor ${processor:-that rustc assumes}; times in milliseconds, instructions in thousands"
 printf '%-10s%8s%8s%8s%8s%8s%12s%12s%8s\n' document copy plain ratio jq ratio copy plain ratio
 for kind in ordered hashed kept records; do
     text_of $kind "$leaves" > text
+    ask
     json_of $kind "$leaves" > json
     by_copy=0 by_plain=0 by_jq=0 ours=0 theirs=0
     for _ in 1 2 3 4 5; do
-        by_copy=$(least $by_copy "$(spent text "$copy")")
+        by_copy=$(least $by_copy "$(spent section "$copy")")
         cmp text copied
         by_plain=$(least $by_plain "$(spent text ./plain)")
         cmp text copied
@@ -68,7 +74,8 @@ for kind in ordered hashed kept records; do
     done
     if command -v valgrind > /dev/null; then
         text_of $kind $((leaves / 10)) > text
-        ours=$(instructions text "$copy")
+        ask
+        ours=$(instructions section "$copy")
         theirs=$(instructions text ./plain)
     fi
     printf '%-10s%8s%8s%8s%8s%8s%12s%12s%8s\n' $kind "$by_copy" "$by_plain" "$(ratio "$by_copy" "$by_plain")" \
@@ -82,9 +89,10 @@ done
     done
     printf 'list 2\nwhole 29\nwhole 29\n'
 } > text
+ask
 by_copy=0
 for _ in 1 2 3 4 5; do
-    by_copy=$(least $by_copy "$(spent text "$copy")")
+    by_copy=$(least $by_copy "$(spent section "$copy")")
     cmp text copied
 done
 printf '%-10s%8s\n' wholes "$by_copy"

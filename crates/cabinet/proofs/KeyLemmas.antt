@@ -1,9 +1,8 @@
 -- A map in an archive answers a key exactly if it is among its pairs.
-use Rattle.std.proofs.Common.{◌≡◌, ◌∙◌, ℕ, List, [], ◌∷◌, ◌++◌, Option, Some, None, refl, sym, ap, subst}
+use Rattle.std.proofs.Common.{◌≡◌, ◌∙◌, ℕ, List, [], ◌∷◌, Option, Some, None, refl, sym, ap, subst}
 use Rattle.std.proofs.lemmas.Option.{none-some, same_Some}
-use Rattle.cabinet_text_grammar.specs.Answering.{Answer, head, head_of, missing, answer, if_there}
+use Rattle.cabinet_text_grammar.specs.Answering.{head, head_of, missing, answer, if_there}
 use Rattle.cabinet_text_grammar.specs.Item.{Item}
-use Rattle.cabinet_text_grammar.specs.Line.{get}
 use Rattle.cabinet_text_grammar.specs.PairsLaws.{AnswersKey, MapAnswersItsPairs, HasPair}
 use Rattle.cabinet_text_grammar.specs.Path.{Step, key, node_at}
 use Rattle.cabinet_text_grammar.specs.Tree.{Tree, map, Pairs, IsLegal}

@@ -3,13 +3,10 @@ pub mod CallsLines
 mod KeyLemmas
 mod Loads
 pub mod Nested
-mod Questions
 pub mod RefusalLemmas
 mod Roots
+mod Saves
 pub mod SessionLaws
 pub mod Sessions
-pub mod SessionsGiven
-pub mod SessionsProgress
-pub mod SessionsResults
 mod WithoutWholes
 pub mod WorkedAnswers

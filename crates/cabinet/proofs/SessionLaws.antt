@@ -9,7 +9,7 @@ use Rattle.cabinet_documents.specs.Accepted.{Accepted}
 use Rattle.cabinet_documents.specs.Image.{Image}
 use Rattle.cabinet_archives.specs.Setting.{EditLeaves}
 use Rattle.cabinet_archives.proofs.Kept.{set_keeps_accepted, set_keeps_image}
-use Rattle.cabinet.specs.Session.{AllSay, next, after_all, edits, one_if_done}
+use Rattle.cabinet_text.specs.Session.{lines_in_place, AllSay, next, after_all, edits, one_if_done}
 use Rattle.cabinet.specs.Editing.{LineLeaves, LinesLeave, no_line, more_lines}
 use Rattle.cabinet.specs.Laws.{IsAfter, AcceptedAfterEachLine, ImageAfterEachLine, UneditedBytesStay}
 
@@ -36,7 +36,7 @@ module _ (Is : Tree → List ℕ → Type 0)
     (keeps : (x y : List ℕ) (t : Tree) (text : List ℕ) (line : Option Line) → Says text line → Is t x → (a : Accepted x t) → LineLeaves x a.value t line y → Is (next t line) y)
   where
     after_each : (t : Tree) (x y : List ℕ) (texts : List (List ℕ)) (said : List (Option Line)) (lines : ℕ)
-        → Is t x → AllSay texts said → LinesLeave x t said y → (mid : List ℕ) × IsAfter x y t said lines mid × Is (after_all t (take lines said)) mid
+        → Is t x → AllSay lines_in_place texts said → LinesLeave x t said y → (mid : List ℕ) × IsAfter x y t said lines mid × Is (after_all lines_in_place t (take lines said)) mid
     after_each t x y texts said zero i h l = (x, record { before = no_line refl refl; later = l }, i)
     after_each t x y texts [] (suc n) i h l = (x, record { before = no_line refl refl; later = l }, i)
     after_each t x y [] (line ∷ said) (suc n) i h l = absurd h
@@ -76,10 +76,10 @@ line_unedited x y root t (Some (keys path)) e l = l
 line_unedited x y root t (Some (range low high path)) e l = l
 line_unedited x y root t (Some (set path new)) e l = put_none x y root path new (answer t (set path new)) e l
 
-lines_unedited : {x y : List ℕ} {t : Tree} {said : List (Option Line)} → LinesLeave x t said y → edits t said ≡ 0 → y ≡ x
+lines_unedited : {x y : List ℕ} {t : Tree} {said : List (Option Line)} → LinesLeave x t said y → edits lines_in_place t said ≡ 0 → y ≡ x
 lines_unedited (no_line e f) h = f
 lines_unedited {x = x} {t = t} (more_lines {mid = mid} {line = line} {rest = rest} e a left later) h =
-    let sum : one_if_done (reply t line) + edits (next t line) rest ≡ 0 = sym (ap (edits t) e) ∙ h in
+    let sum : one_if_done (reply t line) + edits lines_in_place (next t line) rest ≡ 0 = sym (ap (edits lines_in_place t) e) ∙ h in
     let first : mid ≡ x = line_unedited x mid a.value t line (omega (arith, sum)) left in
     lines_unedited later (omega (arith, sum)) ∙ first
 

@@ -1,5 +1,5 @@
 -- No node of an archive is a whole exactly if none of its document is.
-use Rattle.std.proofs.Common.{◌≡◌, ◌≢◌, ℕ, ◌<◌, Bool, true, false, List, refl, sym, subst, arith}
+use Rattle.std.proofs.Common.{◌≢◌, ℕ, ◌<◌, Bool, true, false, List, refl, sym, subst, arith}
 use Rattle.std.specs.Prelude.{cond}
 use Rattle.archive_shape_layout.specs.Value.{Value, Values}
 use Rattle.cabinet_text_grammar.specs.Tree.{Tree, Trees, Pairs, no_pairs, more_pairs}

@@ -1,6 +1,7 @@
 -- What each function ensures, where that is longer than a line. Of a source or a writer that is not observable nothing is
 -- said but its failures.
-use Rattle.std.specs.Prelude.{◌≡◌, ℕ, ◌+◌, ◌≤◌, ◌++◌, Bool, List, [], ◌∷◌, length, drop, IsTrue, Option, option_map, Result, IfOk, IfErr, MatchResult}
+use Rattle.std.specs.Prelude.{◌≡◌, ℕ, ◌+◌, ◌≤◌, Bool, List, ◌∷◌, length, drop, IsTrue, Option, option_map, Result, IfOk, IfErr, MatchResult, Vec}
+use Rattle.std.specs.declared.alloc.Global.{Global}
 use Rattle.archive_shape.specs.declared.steps.Steps.{Steps}
 use Rattle.archive_shape_layout.specs.Holds.{root_position}
 use Rattle.archive_shape_layout.specs.Writing.{WriterMembers, Writes}
@@ -15,29 +16,31 @@ use Rattle.cabinet_text_nodes.specs.Kinds.{kind_of}
 use Rattle.cabinet_text_nodes.specs.Outcomes.{outcome_of}
 use Rattle.cabinet_text_nodes.specs.View.{leaf_of, line_of, path_of}
 use Rattle.cabinet_text_nodes.specs.declared.answer.Asked.{Asked}
-use Rattle.cabinet_text_nodes.specs.declared.answer.SetAnswer.{SetAnswer}
+use Rattle.cabinet_text_nodes.specs.declared.answer.EditAnswer.{EditAnswer}
 use Rattle.cabinet_text_nodes.specs.declared.leaf.Leaf.{Leaf}
 use Rattle.cabinet_text_nodes.specs.declared.line.Line.{Line}
 use Rattle.cabinet_text_nodes.specs.declared.line.Step.{Step}
 use Rattle.cabinet_text_nodes.specs.declared.node.Kind.{Kind}
+use Rattle.cabinet_text.specs.Input.{lines_of, longest_line}
+use Rattle.cabinet_text.specs.Session.{lines_in_place, edit_lines, answer_to, one_if_done}
+use Rattle.cabinet_text.specs.Working.{WorksAsDocument, LeftByRun}
 use Rattle.cabinet_documents.specs.Accepted.{Accepted}
 use Rattle.cabinet_documents.specs.Audit.{IsRefusedFor}
 use Rattle.cabinet_documents.specs.Image.{Image}
 use Rattle.cabinet_documents.specs.Node.{node_shape}
 use Rattle.cabinet_archives.specs.Cost.{PathTakes}
 use Rattle.cabinet_archives.specs.Refused.{refusal_of}
+use Rattle.cabinet_archives.specs.Saving.{HasNoImageFor, IsWithinLimits}
 use Rattle.cabinet_archives.specs.Setting.{EditLeaves}
 use Rattle.cabinet_archives.specs.declared.opening.refusal.OpenRefusal.{OpenRefusal}
+use Rattle.cabinet_archives.specs.declared.saving.saving.SaveRefusal.{SaveRefusal}
+use Rattle.cabinet.specs.declared.editing.EditedArchive.{EditedArchive}
 use Rattle.cabinet.specs.Editing.{EditedByLines}
-use Rattle.cabinet.specs.Failures.{ReaderFails, WriterFails}
-use Rattle.cabinet.specs.Progress.{IsAt, StopsAt, Takes}
-use Rattle.cabinet.specs.Session.{lines_of, answer_to, one_if_done}
-use Rattle.cabinet.specs.Steps.{longest_line, newlines, Carried, Completed, Faulted}
-use Rattle.cabinet.specs.declared.session.Count.{Count}
-use Rattle.cabinet.specs.declared.session.RunCause.{RunCause}
-use Rattle.cabinet.specs.declared.session.RunFault.{RunFault}
-use Rattle.cabinet.specs.declared.session.begun.Begun.{Begun}
-use Rattle.cabinet.specs.declared.source.Source.{Ghosts}
+use Rattle.cabinet.specs.Steps.{Carried, Completed, Faulted}
+use Rattle.cabinet_text.specs.declared.session.Count.{Count}
+use Rattle.cabinet_text.specs.declared.session.RunCause.{RunCause}
+use Rattle.cabinet_text.specs.declared.session.RunFault.{RunFault}
+use Rattle.cabinet_text.specs.declared.source.Source.{Ghosts}
 
 -- ---- questions and edits of the document whose archive the bytes are
 
@@ -60,12 +63,12 @@ CountsSteps bytes path result =
     PathTakes bytes (root_position (length bytes) node_shape) (path_of path) result.comparisons result.strides
 
 -- the outcome of setting a leaf is the document's answer to that edit
-abbrev pub AnswersEdit : (bytes : List ℕ) → List Step → Leaf → SetAnswer → Type 0
+abbrev pub AnswersEdit : (bytes : List ℕ) → List Step → Leaf → EditAnswer → Type 0
 AnswersEdit bytes path leaf result =
     (t : Tree) → Accepted bytes t → outcome_of result ≡ answer t (line.set (path_of path) (leaf_of leaf))
 
 -- the edit writes the own bytes of its leaf if it is done, and no others
-abbrev pub WritesEdit : (old : List ℕ) → List Step → Leaf → SetAnswer → (new : List ℕ) → Type 0
+abbrev pub WritesEdit : (old : List ℕ) → List Step → Leaf → EditAnswer → (new : List ℕ) → Type 0
 WritesEdit old path leaf result new =
     (t : Tree) (a : Accepted old t) → EditLeaves old a.value (path_of path) (leaf_of leaf) (outcome_of result) new
 
@@ -85,21 +88,6 @@ WritesDocument w bytes early late result =
     (λ refusal. IsRefusedFor bytes (refusal_of refusal) × (late ≡ early))
 
 -- ---- runs
-
--- the reader failed once if that ended the run, and otherwise never
-abbrev pub ReaderEndsRun : {R : Type 0} → Ghosts R → (early late : R) → Result Count RunFault → Type 0
-ReaderEndsRun r early late result =
-    MatchResult result (λ _. r.failures late ≡ r.failures early) (λ f. ReaderFails f.cause (r.failures early) (r.failures late))
-
--- the writer failed once if that ended the run and it counts its failures, and otherwise never
-abbrev pub WriterEndsRun : {W : Type 0} → WriterMembers W → (early late : W) → Result Count RunFault → Type 0
-WriterEndsRun w early late result =
-    MatchResult result (λ _. w.failures late ≡ w.failures early) (λ f. WriterFails w.COUNTS f.cause (w.failures early) (w.failures late))
-
--- the same of a call that may end the run
-abbrev pub WriterEndsCall : {W A : Type 0} → WriterMembers W → (early late : W) → Result A RunCause → Type 0
-WriterEndsCall w early late result =
-    MatchResult result (λ _. w.failures late ≡ w.failures early) (λ cause. WriterFails w.COUNTS cause (w.failures early) (w.failures late))
 
 -- as many lines as the result tells were carried out, which changed the bytes
 abbrev pub EditedByRun : (old new : List ℕ) → Result Count RunFault → Type 0
@@ -123,12 +111,27 @@ RunsToFault r w reader rest old new early late result =
     IsTrue r.OBSERVABLE → IsTrue w.OBSERVABLE
     → IfErr result (λ f. Faulted w.COUNTS (r.left reader) (r.left rest) old new (w.contents early) (w.contents late) f.lines f.edits f.cause)
 
+-- ---- archives of documents that grow
+
+-- the bytes are the image of a document, or it was not saved
+abbrev pub SavesAs : Result (Vec ℕ Global) SaveRefusal → Tree → Type 0
+SavesAs archive t = MatchResult archive (λ bytes. Image t bytes.items × IsWithinLimits t) (HasNoImageFor t)
+
+-- the answers are those of the document of the archive, and the document after the lines is saved
+abbrev pub EditsDocument : (counts : Bool) (old : List ℕ) (input left early late : List ℕ) → EditedArchive → Type 0
+EditsDocument counts old input left early late e =
+    (t : Tree) × Accepted old t × WorksAsDocument edit_lines (SavesAs e.archive) counts t input left early late e.outcome
+
+-- as many lines as the outcome tells were carried out, and the document after them is saved
+abbrev pub SavesEdits : (old : List ℕ) → EditedArchive → Type 0
+SavesEdits old e = (t : Tree) × Accepted old t × LeftByRun edit_lines (SavesAs e.archive) t e.outcome
+
 -- ---- lines
 
 -- the answer to what a line says is written
 abbrev pub WritesReply : {W A : Type 0} → WriterMembers W → (bytes : List ℕ) → Option Line → (early late : W) → Result A Error → Type 0
 WritesReply w bytes said early late result =
-    (t : Tree) → Accepted bytes t → Writes w early late (answer_to t (option_map line_of said)) result
+    (t : Tree) → Accepted bytes t → Writes w early late (answer_to lines_in_place t (option_map line_of said)) result
 
 -- one more edit is counted, if the line is one that is done
 abbrev pub CountsEdit : (bytes : List ℕ) → Option Line → (before after : ℕ) → Type 0
@@ -146,29 +149,8 @@ CarriesLine w text old new early late before after result =
     (λ _. Carried input x new first (w.contents late) after.lines after.edits)
     (λ cause. Faulted w.COUNTS input left x new first (w.contents late) after.lines after.edits cause)
 
--- bytes without a newline go to the line begun, or the run ends in it; the archive and the writer's bytes stay
-abbrev pub LengthensLine : {A : Type 0} → (bytes : List ℕ) (before after : Begun) → Result A RunCause → Type 0
-LengthensLine bytes before after result =
-    newlines bytes ≡ 0 → (counts : Bool) (old new : List ℕ) → Takes counts bytes old old new new before after result
-
--- the rest of a line and its newline are taken, or the run ends in the line
-abbrev pub EndsLine : {W A : Type 0} → WriterMembers W → (rest : List ℕ) (old new : List ℕ) (early late : W) (before after : Begun)
-    → Result A RunCause → Type 0
-EndsLine w rest old new early late before after result =
-    IsTrue w.OBSERVABLE → newlines rest ≡ 0
-    → Takes w.COUNTS (rest ++ 10 ∷ []) old new (w.contents early) (w.contents late) before after result
-
--- a piece of the input is taken, or the run ends in it
-abbrev pub TakesPiece : {W A : Type 0} → WriterMembers W → (piece : List ℕ) (old new : List ℕ) (early late : W) (before after : Begun)
-    → Result A RunCause → Type 0
-TakesPiece w piece old new early late before after result =
-    IsTrue w.OBSERVABLE → Takes w.COUNTS piece old new (w.contents early) (w.contents late) before after result
-
--- the whole input was carried out, with a last line that has no newline, or the run ends in it
-abbrev pub EndsInput : {W A : Type 0} → WriterMembers W → (old new : List ℕ) (early late : W) (before after : Begun) → Result A RunCause
-    → Type 0
-EndsInput w old new early late before after result =
-    IsTrue w.OBSERVABLE → (input x first left : List ℕ) → IsAt input x old first (w.contents early) before []
-    → MatchResult result
-    (λ _. Completed input x new first (w.contents late) after.count.lines after.count.edits)
-    (StopsAt w.COUNTS input left x new first (w.contents late) after)
+-- A line changes the bytes from y to z: if the lines counted before changed any bytes to y, the lines counted after change
+-- those bytes to z.
+abbrev pub KeepsEdits : (y z : List ℕ) → Count → Count → Type 0
+KeepsEdits y z before after =
+    (x : List ℕ) → EditedByLines x y before.lines before.edits → EditedByLines x z after.lines after.edits

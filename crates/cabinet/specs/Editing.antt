@@ -7,7 +7,7 @@ use Rattle.cabinet_text_grammar.specs.Answering.{reply}
 use Rattle.cabinet_documents.specs.Accepted.{Accepted}
 use Rattle.cabinet_documents.specs.Image.{Image}
 use Rattle.cabinet_archives.specs.Setting.{EditLeaves}
-use Rattle.cabinet.specs.Session.{AllSay, next, after_all, edits}
+use Rattle.cabinet_text.specs.Session.{lines_in_place, AllSay, next, after_all, edits}
 
 -- the bytes that a line leaves of the archive of a document whose root has the value `root`: an edit that is done
 -- writes the own bytes of its leaf, and no other line writes anything
@@ -32,14 +32,14 @@ pub data LinesLeave : List ℕ → Tree → List (Option Line) → List ℕ → 
 -- lines change the bytes x to y: their edits are written, an archive stays an archive, and an image stays an image
 pub record Edited (x y : List ℕ) (said : List (Option Line)) : Type 0 where
   pub bytes : (t : Tree) → Accepted x t → LinesLeave x t said y
-  pub document : (t : Tree) → Accepted x t → Accepted y (after_all t said)
-  pub image : (t : Tree) → Image t x → Image (after_all t said) y
+  pub document : (t : Tree) → Accepted x t → Accepted y (after_all lines_in_place t said)
+  pub image : (t : Tree) → Image t x → Image (after_all lines_in_place t said) y
 
 -- `lines` lines were carried out, which changed the bytes x to y, and `edited` edits were done.
 pub record EditedByLines (x y : List ℕ) (lines edited : ℕ) : Type 0 where
   pub texts : List (List ℕ)
   pub said : List (Option Line)
-  pub say : AllSay texts said
+  pub say : AllSay lines_in_place texts said
   pub count : length said ≡ lines
   pub edits_done : Edited x y said
-  pub edits_counted : (t : Tree) → Accepted x t → edited ≡ edits t said
+  pub edits_counted : (t : Tree) → Accepted x t → edited ≡ edits lines_in_place t said

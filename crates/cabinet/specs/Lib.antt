@@ -3,13 +3,10 @@ pub mod ByteCalls
 pub mod Calls
 pub mod Codes
 pub mod Editing
-pub mod Failures
 pub mod Headline
 pub mod KeyLaws
 pub mod Laws
-pub mod Progress
 pub mod RefusalsLaws
 pub mod Reporting
-pub mod Session
 pub mod Steps
 pub mod WholesLaws

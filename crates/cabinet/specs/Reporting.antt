@@ -7,8 +7,8 @@ use Rattle.cabinet_archives.specs.declared.opening.refusal.OpenRefusal.{OpenRefu
 use Rattle.cabinet_archives.specs.declared.opening.refusal.OpenRefusal.TheVariants as open_refusal
 use Rattle.cabinet_archives.specs.declared.saving.saving.SaveRefusal.{SaveRefusal}
 use Rattle.cabinet_archives.specs.declared.saving.saving.SaveRefusal.TheVariants as save_refusal
-use Rattle.cabinet.specs.declared.session.RunCause.{RunCause}
-use Rattle.cabinet.specs.declared.session.RunCause.TheVariants as run_cause
+use Rattle.cabinet_text.specs.declared.session.RunCause.{RunCause}
+use Rattle.cabinet_text.specs.declared.session.RunCause.TheVariants as run_cause
 use Rattle.cabinet.specs.declared.fault.Fault.{Fault}
 use Rattle.cabinet.specs.declared.fault.Fault.TheVariants.{Usage, CannotRead, CannotWrite, Text, Save, Open, Run}
 

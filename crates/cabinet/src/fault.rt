@@ -3,9 +3,9 @@ ghost use Rattle.std.specs.Prelude.{◌≡◌, ◌-◌, ◌^◌, ◌<◌};
 ghost use Rattle.archive_shape_layout.specs.Writing.{Writes};
 ghost use Rattle.cabinet.specs.Reporting.{cause_name, save_refusal_name, open_refusal_name, run_cause_name, spelled_fault, status_of};
 
-use crate::session::{RunCause, RunFault};
 use archive_shape_layout::{Error, Writer, write_all_pieces, write_three_pieces};
 use cabinet_archives::{OpenRefusal, SaveRefusal};
+use cabinet_text::{RunCause, RunFault};
 use cabinet_text_bytes::Decimal;
 use cabinet_text_grammar::Cause;
 use cabinet_text_reading::TextRefusal;

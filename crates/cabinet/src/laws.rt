@@ -1,7 +1,7 @@
 //! The laws of documents in archives, of their maps and wholes, of loaded documents, of sessions and of statuses. Each is a
 //! function whose contract is the law. Its body is empty, or calls the law that it rests on.
 ghost use Rattle.cabinet.specs.KeyLaws.{ArchiveAnswersItsPairs};
-ghost use Rattle.cabinet.specs.Laws.{AcceptedAfterEachLine, CodesDiffer, ImageAfterEachLine, LoadedIsSaved, SavedAgainIsSame, UneditedBytesStay};
+ghost use Rattle.cabinet.specs.Laws.{AcceptedAfterEachLine, CodesDiffer, EditedAsInPlace, ImageAfterEachLine, LoadedIsSaved, SavedAgainIsSame, UneditedBytesStay};
 ghost use Rattle.cabinet.specs.WholesLaws.{ArchiveWithoutWholes};
 
 pub use crate::refusals::accepted_is_not_refused;
@@ -21,6 +21,11 @@ pub fn image_after_each_line()
 /// The bytes of an archive in which no edit was done are unchanged.
 pub fn unedited_bytes_stay()
     ensures { UneditedBytesStay }
+{}
+
+/// Lines that work in place leave the same image where the document is loaded, edited and saved.
+pub fn edited_as_in_place()
+    ensures { EditedAsInPlace }
 {}
 
 /// Saving the document that an archive is loaded as gives an archive of the same document.

@@ -22,7 +22,7 @@ use archive_hash_probing::{Group, Scan};
 use archive_shape::{Ref, Steps};
 use archive_shape_layout::{Error, Writer};
 use cabinet_archives::{ArchivedNode, OpenRefusal, check_scanned};
-use cabinet_text_nodes::{Asked, Document, Kind, Leaf, Line, SetAnswer, Step};
+use cabinet_text_nodes::{Asked, Document, EditAnswer, Kind, Leaf, Line, Step};
 use std::alloc::{AllocError, Global};
 use std::marker::PhantomData;
 
@@ -123,7 +123,7 @@ impl<'a, G: Scan> Opened<'a, G> {
 
     /// Writes a leaf at a path, if the node there is a leaf of the same kind and, for a text, of the same length. What
     /// lies in a whole stays, since it may have other places too. Reads only the nodes on the path, and does not allocate.
-    pub fn set(&mut self, path: &[Step], leaf: &Leaf) -> SetAnswer
+    pub fn set(&mut self, path: &[Step], leaf: &Leaf) -> EditAnswer
         ensures same { self.new.bytes.ghost_name ≡ self.old.bytes.ghost_name }
         ensures answer { AnswersEdit self.old.bytes.now path.now leaf.now result }
         // No other bytes change.

@@ -1,72 +1,16 @@
 //! Sessions: the lines of a source, carried out in the bytes of an archive.
 ghost use Rattle.std.specs.Prelude.{◌≡◌, ◌-◌, ◌^◌, ◌<◌};
-ghost use Rattle.cabinet.specs.Calls.{ReaderEndsRun, WriterEndsRun, EditedByRun, RunsAll, RunsToFault};
+ghost use Rattle.cabinet_text.specs.Calls.{ReaderEndsRun, WriterEndsRun};
+ghost use Rattle.cabinet.specs.Calls.{EditedByRun, RunsAll, RunsToFault};
 
-mod begun;
 mod carrying;
 
 use crate::opened::Opened;
-use crate::source::Source;
 use archive_hash_probing::Scan;
 use archive_shape_layout::Writer;
-use begun::Begun;
-use carrying::{end_input, take_piece};
+use cabinet_text::{Count, LineReader, RunFault, Source};
+use carrying::answer_line;
 use std::alloc::Global;
-use thiserror::Error;
-
-/// The number of lines that were carried out, and the number of edits among them that were done.
-#[derive(Clone, Copy, Debug, PartialEq, Eq)]
-pub struct Count {
-    pub lines: u64,
-    pub edits: u64,
-}
-
-/// Why a run ended before the end of its input.
-#[derive(Clone, Copy, Debug, PartialEq, Eq, Error)]
-pub enum RunCause {
-    /// The source failed.
-    #[error("the source failed")]
-    Read,
-    /// The writer failed, or one of its allocations failed.
-    #[error("the writer failed")]
-    Write,
-    /// An allocation for a line failed.
-    #[error("out of memory")]
-    OutOfMemory,
-    /// A line has more than 1,048,576 bytes.
-    #[error("a line is too long")]
-    LineTooLong,
-    /// The input has more than 4,294,967,295 bytes.
-    #[error("the input is too long")]
-    InputTooLong,
-}
-
-/// The cause that ended a run, with the number of lines that were carried out and of edits that were done.
-#[derive(Clone, Copy, Debug, PartialEq, Eq, Error)]
-#[error("{cause} after {lines} lines, {edits} of them edits")]
-pub struct RunFault {
-    pub cause: RunCause,
-    pub lines: u64,
-    pub edits: u64,
-}
-
-impl RunFault {
-    /// Returns the fault of a cause after the lines and edits of `count`.
-    fn after(count: Count, cause: RunCause) -> RunFault
-        ensures cause { result.cause ≡ cause }
-        ensures lines { result.lines ≡ count.lines }
-        ensures edits { result.edits ≡ count.edits }
-    {
-        RunFault {
-            cause,
-            lines: count.lines,
-            edits: count.edits,
-        }
-    }
-}
-
-/// The maximum number of bytes that are read at once.
-const PIECE: usize = 16384;
 
 /// Carries out the lines of a source, and writes the answer to each. Allocates for a line that does not lie whole in
 /// the bytes of one read, and for the path and the text of a line.
@@ -86,23 +30,17 @@ pub fn run<G: Scan, R: Source, W: Writer>(
     ensures reader_fails { ReaderEndsRun R.Source reader.old reader.new result }
     ensures writer_fails { WriterEndsRun W.Writer writer.old writer.new result }
 {
-    let mut piece = [0u8; PIECE];
-    let mut begun = Begun::new(alloc);
+    let mut lines = LineReader::new(alloc);
+    let mut count = Count { lines: 0, edits: 0 };
     loop {
-        let len = match reader.read(&mut piece) {
-            Ok(len) => len,
-            Err(_) => return Err(RunFault::after(begun.count, RunCause::Read)),
-        };
-        if len == 0 {
-            break;
+        match lines.advance(reader) {
+            Ok(true) => {}
+            Ok(false) => return Ok(count),
+            Err(cause) => return Err(RunFault::after(count, cause)),
         }
-        match take_piece(alloc, opened, &mut begun, &piece[..len], writer) {
+        match answer_line(alloc, opened, lines.line(), &mut count, writer) {
             Ok(()) => {}
-            Err(cause) => return Err(RunFault::after(begun.count, cause)),
+            Err(cause) => return Err(RunFault::after(count, cause)),
         }
-    }
-    match end_input(alloc, opened, &mut begun, writer) {
-        Ok(()) => Ok(begun.count),
-        Err(cause) => Err(RunFault::after(begun.count, cause)),
     }
 }

@@ -11,7 +11,7 @@ use cabinet_text_nodes::{Document, write_text};
 use std::alloc::Global;
 
 /// Returns the document that the bytes are the archive of.
-fn document_of(alloc: Global, archive: &[u8]) -> Result<Document, OpenRefusal>
+pub(crate) fn document_of(alloc: Global, archive: &[u8]) -> Result<Document, OpenRefusal>
     ensures document { IfOk result (λ document. Accepted archive.now document) }
     ensures refused { IfErr result (λ refusal. IsRefusedFor archive.now (refusal_of refusal)) }
 {

@@ -3,15 +3,16 @@ ghost use Rattle.std.specs.Prelude.{◌≡◌, ◌-◌, ◌^◌, ◌<◌, IsTrue
 ghost use Rattle.cabinet_text_grammar.specs.Tree.{Tree};
 ghost use Rattle.cabinet_documents.specs.Accepted.{Accepted};
 ghost use Rattle.cabinet_archives.specs.Saving.{HasNoImageFor, IsWithinLimits};
-ghost use Rattle.cabinet.specs.Calls.{ReaderEndsRun, WriterEndsRun, EditedByRun, EditsSaved, RunsAll, RunsToFault};
+ghost use Rattle.cabinet_text.specs.Calls.{ReaderEndsRun, WriterEndsRun};
+ghost use Rattle.cabinet.specs.Calls.{EditedByRun, EditsSaved, RunsAll, RunsToFault};
 ghost use Rattle.cabinet.specs.Headline.{WorksInPlace};
 
 use crate::opened::Opened;
-use crate::session::{Count, RunFault, run};
-use crate::source::Source;
+use crate::session::run;
 use archive_hash_probing::Group;
 use archive_shape_layout::Writer;
 use cabinet_archives::{SaveRefusal, to_bytes};
+use cabinet_text::{Count, RunFault, Source};
 use cabinet_text_nodes::Document;
 use std::alloc::Global;
 

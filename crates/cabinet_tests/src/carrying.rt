@@ -1,8 +1,8 @@
 //! Tests of lines that are carried out in archives, by each scan, and where a read or a write fails.
 use crate::archives::{A_APART, LOOSE};
 use cabinet::{
-    Asked, Group1, Group8, Group16, Line, RunCause, Scan, SetAnswer, open, open_scanned, read_line,
-    run,
+    Asked, EditAnswer, Group1, Group8, Group16, Line, RunCause, Scan, open, open_scanned,
+    read_line, run,
 };
 use cabinet_doubles::archives::A_TO_WORLD;
 use cabinet_doubles::{Edit, FailingWriter, ROWS, Row, SliceSource, count_lines};
@@ -156,10 +156,10 @@ fn questions_and_edits_tell_what_came_of_them(rt: HostRuntime) -> Result<(), Fai
     }
     assert!(rt; answers.as_slice() == b"text 'world\nmissing\nwrong\n".as_slice());
     for (edit, answer) in [
-        (b"set text 'WORLD 'a".as_slice(), SetAnswer::Done),
-        (b"set text 'worlds 'a", SetAnswer::Refused),
-        (b"set int 9", SetAnswer::Refused),
-        (b"set int 9 'b", SetAnswer::Missing),
+        (b"set text 'WORLD 'a".as_slice(), EditAnswer::Done),
+        (b"set text 'worlds 'a", EditAnswer::Refused),
+        (b"set int 9", EditAnswer::Refused),
+        (b"set int 9 'b", EditAnswer::Missing),
     ] {
         let Line::Set { path, leaf } = read_line(rt.alloc(), edit)? else {
             return Err(Fail::from("no edit"));

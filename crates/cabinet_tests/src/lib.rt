@@ -8,6 +8,8 @@ mod calls;
 #[cfg(test)]
 mod carrying;
 #[cfg(test)]
+mod growing;
+#[cfg(test)]
 mod laws;
 #[cfg(test)]
 mod loading;

@@ -1,6 +1,6 @@
 //! Tests of documents that are loaded from archives.
 use crate::archives::{SHARED_APART, WHOLES_APART};
-use cabinet::{Document, Leaf, Node, SetAnswer, Step, open, to_bytes, write_text};
+use cabinet::{Document, EditAnswer, Leaf, Node, Step, open, to_bytes, write_text};
 use cabinet_doubles::archives::{A_TO_WORLD, TWO_SHARED, TWO_WHOLES};
 use std::rc::RcStr;
 use std::test::Fail;
@@ -45,7 +45,7 @@ fn an_edit_is_loaded_and_leaves_what_was_loaded_before(rt: HostRuntime) -> Resul
     let before = opened.load(rt.alloc())?;
     let path = [Step::Key(String::from_str(rt.alloc(), "a")?)];
     let leaf = Leaf::Text(String::from_str(rt.alloc(), "WORLD")?);
-    assert!(rt; opened.set(&path, &leaf) == SetAnswer::Done);
+    assert!(rt; opened.set(&path, &leaf) == EditAnswer::Done);
     let mut text = Vec::new(rt.alloc());
     write_text(&before, &mut text)?;
     write_text(&opened.load(rt.alloc())?, &mut text)?;

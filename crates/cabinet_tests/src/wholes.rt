@@ -1,7 +1,7 @@
 //! Tests of wholes that lie in one another: by each scan they are opened or refused, answered, loaded and saved again.
 use crate::archives::{WHOLES_BY_PLACE, chain, doubled, whole_again_in_options};
 use cabinet::{
-    Document, Group1, Group8, Group16, Kind, Leaf, Line, OpenRefusal, Scan, SetAnswer, Step,
+    Document, EditAnswer, Group1, Group8, Group16, Kind, Leaf, Line, OpenRefusal, Scan, Step,
     check_scanned, open_scanned, read_line, read_text, to_bytes, write_text,
 };
 use cabinet_doubles::text_of_wholes;
@@ -120,7 +120,7 @@ fn is_edited_nowhere<G: Scan>(
         located == Some(kind)
             && steps.comparisons == 0
             && steps.strides == 0
-            && opened.set(&path, &Leaf::Int(2)) == SetAnswer::Refused,
+            && opened.set(&path, &Leaf::Int(2)) == EditAnswer::Refused,
     )
 }
 

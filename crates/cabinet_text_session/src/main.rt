@@ -1,6 +1,8 @@
-//! Reads the texts of documents, each with lines about it, and prints the answers of the plain documents.
+//! Reads the texts of documents, each with lines about it, and prints the answers of the plain documents. A text may also be
+//! printed again.
 #![tactic(auto)]
 
+mod copying;
 mod sections;
 mod session;
 

@@ -1,13 +1,16 @@
-//! Splits an input into sections: a document's text, a line `lines`, lines about it, and a line `end`.
+//! Splits an input into sections: a document's text, a line `lines`, lines about it, and a line `end`; or, as the last one, a
+//! line `copy` and a text up to the end of the input.
 ghost use Rattle.std.specs.Prelude.{◌<◌, length, IfSome};
 
 use cabinet_text_bytes::newline_in;
 
-/// A section of an input: a document's text, and lines about the document.
+/// A section of an input.
 #[derive(Drop)]
-pub struct Section<'a> {
-    pub text: &'a [u8],
-    pub lines: &'a [u8],
+pub enum Section<'a> {
+    /// A document's text, and lines about the document.
+    Lines { text: &'a [u8], lines: &'a [u8] },
+    /// A text that is to be written again.
+    Copy(&'a [u8]),
 }
 
 /// Returns the bytes before the first newline, and those after it.
@@ -41,7 +44,14 @@ fn split_at_mark<'a>(input: &'a [u8], mark: &[u8]) -> Option<(&'a [u8], &'a [u8]
 pub fn first_section(input: &[u8]) -> Option<(Section<'_>, &[u8])>
     ensures { IfSome result (λ p. length p.1.now < length input.now) }
 {
+    if input.is_empty() {
+        return None;
+    }
+    let (line, below) = first_line(input);
+    if line == b"copy".as_slice() {
+        return Some((Section::Copy(below), &[]));
+    }
     let (text, after) = split_at_mark(input, b"lines")?;
     let (lines, rest) = split_at_mark(after, b"end")?;
-    Some((Section { text, lines }, rest))
+    Some((Section::Lines { text, lines }, rest))
 }

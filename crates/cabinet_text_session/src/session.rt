@@ -1,4 +1,5 @@
-//! Answers the lines of a section from its plain document.
+//! Answers the lines of a section from its plain document, or writes its text again.
+use crate::copying::{Fault, copy_text};
 use crate::sections::{Section, first_line};
 use archive_shape_layout::{Error, Writer, write_three_pieces};
 use cabinet_text::{Cause, Document, Line, LineRefusal, TextRefusal, answer, read_line, read_text};
@@ -57,21 +58,43 @@ fn answer_line(
     }
 }
 
-/// Writes the answers to the lines of a section, or the fault for which its text was refused.
-pub fn answer_section(
+/// Writes the answers to lines about a document, or the fault for which its text was refused.
+fn answer_lines(
     alloc: Global,
-    section: &Section<'_>,
+    text: &[u8],
+    lines: &[u8],
     answers: &mut Vec<u8>,
 ) -> Result<(), Error> {
-    let mut document = match read_text(alloc, section.text) {
+    let mut document = match read_text(alloc, text) {
         Ok(document) => document,
         Err(refusal) => return write_refusal(refusal, answers),
     };
-    let mut rest = section.lines;
+    let mut rest = lines;
     while !rest.is_empty() {
         let (line, after) = first_line(rest);
         answer_line(alloc, &mut document, line, answers)?;
         rest = after;
     }
     Ok(())
+}
+
+/// Writes a text again, or the fault for which it was refused.
+fn write_copy(alloc: Global, text: &[u8], answers: &mut Vec<u8>) -> Result<(), Error> {
+    match copy_text(alloc, text, answers) {
+        Ok(()) => Ok(()),
+        Err(Fault::Text(refusal)) => write_refusal(refusal, answers),
+        Err(Fault::Write(error)) => Err(error),
+    }
+}
+
+/// Writes what a section asks for.
+pub fn answer_section(
+    alloc: Global,
+    section: &Section<'_>,
+    answers: &mut Vec<u8>,
+) -> Result<(), Error> {
+    match section {
+        Section::Lines { text, lines } => answer_lines(alloc, text, lines, answers),
+        Section::Copy(text) => write_copy(alloc, text, answers),
+    }
 }

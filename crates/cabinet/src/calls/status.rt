@@ -8,7 +8,7 @@ ghost use Rattle.cabinet.specs.Codes.{code_of, status_of_answer, status_of_cause
 
 use cabinet_archives::OpenRefusal;
 use cabinet_text_grammar::Cause;
-use cabinet_text_nodes::{Asked, SetAnswer};
+use cabinet_text_nodes::{Asked, EditAnswer};
 
 /// What a call tells. The header of `cabinet_c` has the same names and codes.
 #[derive(Clone, Copy, Debug, PartialEq, Eq)]
@@ -110,13 +110,13 @@ impl Status {
     }
 
     /// Returns the status of the outcome of an edit.
-    pub fn of_outcome(outcome: SetAnswer) -> Status
+    pub fn of_outcome(outcome: EditAnswer) -> Status
         ensures { result ≡ status_of_answer (outcome_of outcome) }
     {
         match outcome {
-            SetAnswer::Done => Status::Ok,
-            SetAnswer::Missing => Status::Missing,
-            SetAnswer::Refused => Status::Refused,
+            EditAnswer::Done => Status::Ok,
+            EditAnswer::Missing => Status::Missing,
+            EditAnswer::Refused => Status::Refused,
         }
     }
 }

@@ -1,25 +1,23 @@
-//! Carrying out and answering the lines of an input.
-ghost use Rattle.std.specs.Prelude.{◌≡◌, ◌≢◌, ◌+◌, ◌-◌, ◌^◌, ◌<◌, ◌≤◌, [], ◌∷◌, length, Some, IfOk, IfErr, OnOk, OnErr, option_map};
+//! Carrying out and answering a line.
+ghost use Rattle.std.specs.Prelude.{◌≡◌, ◌≢◌, ◌+◌, ◌-◌, ◌^◌, ◌<◌, ◌≤◌, [], ◌∷◌, Some, IfOk, IfErr, OnOk, OnErr, option_map};
 ghost use Rattle.cabinet_text_grammar.specs.Tree.{Tree};
 ghost use Rattle.cabinet_text_grammar.specs.Line.{Says};
 ghost use Rattle.cabinet_text_grammar.specs.Answering.{reply};
-ghost use Rattle.cabinet.specs.Calls.{WritesAnswer, WritesReply, CountsEdit, WriterEndsCall, CarriesLine, EndsLine, TakesPiece, EndsInput};
-ghost use Rattle.cabinet.specs.Session.{one_if_done};
+ghost use Rattle.cabinet_text.specs.Calls.{WriterEndsCall};
+ghost use Rattle.cabinet.specs.Calls.{WritesAnswer, WritesReply, CountsEdit, CarriesLine, KeepsEdits};
+ghost use Rattle.cabinet_text.specs.Session.{one_if_done};
 ghost use Rattle.cabinet_text_nodes.specs.Lines.{IsQuestion};
 ghost use Rattle.cabinet_text_nodes.specs.Outcomes.{outcome_of};
 ghost use Rattle.cabinet_text_nodes.specs.View.{line_of};
 ghost use Rattle.cabinet_text_reading.specs.Reading.{RefusesLine};
 ghost use Rattle.cabinet_archives.specs.Failing.{FailsByWriter};
 ghost use Rattle.cabinet.specs.Editing.{Edited};
-ghost use Rattle.cabinet.specs.Progress.{KeepsEdits};
 
-use super::begun::{Begun, LONGEST_INPUT, LONGEST_LINE};
-use super::{Count, RunCause};
 use crate::opened::Opened;
 use archive_hash_probing::Scan;
 use archive_shape_layout::{Error, Writer};
-use cabinet_text_bytes::newline_in;
-use cabinet_text_nodes::{Line, LineRefusal, SetAnswer, write_bad, write_outcome};
+use cabinet_text::{Count, RunCause};
+use cabinet_text_nodes::{EditAnswer, Line, LineRefusal, write_bad, write_outcome};
 use cabinet_text_reading::read_line;
 use std::alloc::{AllocError, Global};
 
@@ -36,13 +34,13 @@ fn read_said(alloc: Global, bytes: &[u8]) -> Result<Option<Line>, AllocError>
 }
 
 /// Returns the number of edits that an outcome represents.
-fn edits_in(outcome: SetAnswer) -> u64
+fn edits_in(outcome: EditAnswer) -> u64
     ensures counted { result ≡ one_if_done (outcome_of outcome) }
     ensures one { result ≤ 1 }
 {
     match outcome {
-        SetAnswer::Done => 1,
-        SetAnswer::Missing | SetAnswer::Refused => 0,
+        EditAnswer::Done => 1,
+        EditAnswer::Missing | EditAnswer::Refused => 0,
     }
 }
 
@@ -95,7 +93,7 @@ fn carry_out<G: Scan, W: Writer>(
 }
 
 /// Reads a line, carries it out and writes the answer.
-fn answer_line<G: Scan, W: Writer>(
+pub(super) fn answer_line<G: Scan, W: Writer>(
     alloc: Global,
     opened: &mut Opened<'_, G>,
     line: &[u8],
@@ -122,134 +120,4 @@ fn answer_line<G: Scan, W: Writer>(
         Ok(()) => Ok(()),
         Err(_) => Err(RunCause::Write),
     }
-}
-
-/// Takes the rest of a line, which a newline follows, and carries out the line.
-fn end_line<G: Scan, W: Writer>(
-    alloc: Global,
-    opened: &mut Opened<'_, G>,
-    begun: &mut Begun,
-    rest: &[u8],
-    writer: &mut W,
-) -> Result<(), RunCause>
-    requires room { W.failures writer.old < 2 ^ 64 - 1 }
-    requires within { begun.old.total + length rest.now < 4294967295 }
-    ensures same { opened.new.bytes.ghost_name ≡ opened.old.bytes.ghost_name }
-    ensures total { OnOk result (begun.new.total ≡ begun.old.total + length rest.now + 1) }
-    ensures not_read { IfErr result (λ cause. cause ≢ RunCause.Read) }
-    ensures writer_fails { WriterEndsCall W.Writer writer.old writer.new result }
-    ensures edits { KeepsEdits opened.old.bytes.now opened.new.bytes.now begun.old.count
-        begun.new.count }
-    ensures taken { EndsLine W.Writer rest.now opened.old.bytes.now opened.new.bytes.now writer.old writer.new begun.old begun.new result }
-{
-    if rest.len() > LONGEST_LINE - begun.line.len() {
-        return Err(RunCause::LineTooLong);
-    }
-    begun.total += rest.len() as u64 + 1;
-    if begun.line.is_empty() {
-        return answer_line(alloc, opened, rest, &mut begun.count, writer);
-    }
-    match begun.line.extend_from_slice(rest) {
-        Ok(()) => {}
-        Err(_) => return Err(RunCause::OutOfMemory),
-    }
-    let answered = answer_line(
-        alloc,
-        opened,
-        begun.line.as_slice(),
-        &mut begun.count,
-        writer,
-    );
-    begun.line.clear();
-    answered
-}
-
-/// Takes all of a piece of the input.
-fn feed<G: Scan, W: Writer>(
-    alloc: Global,
-    opened: &mut Opened<'_, G>,
-    begun: &mut Begun,
-    piece: &[u8],
-    writer: &mut W,
-) -> Result<(), RunCause>
-    requires room { W.failures writer.old < 2 ^ 64 - 1 }
-    requires within { begun.old.total + length piece.now ≤ 4294967295 }
-    ensures total { OnOk result (begun.new.total ≡ begun.old.total + length piece.now) }
-    ensures same { opened.new.bytes.ghost_name ≡ opened.old.bytes.ghost_name }
-    ensures not_read { IfErr result (λ cause. cause ≢ RunCause.Read) }
-    ensures writer_fails { WriterEndsCall W.Writer writer.old writer.new result }
-    ensures edits { KeepsEdits opened.old.bytes.now opened.new.bytes.now begun.old.count
-        begun.new.count }
-    ensures taken { TakesPiece W.Writer piece.now opened.old.bytes.now opened.new.bytes.now writer.old writer.new begun.old begun.new result }
-{
-    let mut rest = piece;
-    while let Some(end) = newline_in(rest) {
-        match end_line(alloc, opened, begun, &rest[..end], writer) {
-            Ok(()) => rest = &rest[end + 1..],
-            Err(cause) => return Err(cause),
-        }
-    }
-    begun.take(rest)
-}
-
-/// Takes a piece of the input, up to the limit of an input. If the piece exceeds the limit, returns `InputTooLong`, or
-/// `LineTooLong` if its first byte past the limit exceeds the limit of a line too.
-pub(super) fn take_piece<G: Scan, W: Writer>(
-    alloc: Global,
-    opened: &mut Opened<'_, G>,
-    begun: &mut Begun,
-    piece: &[u8],
-    writer: &mut W,
-) -> Result<(), RunCause>
-    requires { W.failures writer.old < 2 ^ 64 - 1 }
-    ensures total { OnOk result (begun.new.total ≡ begun.old.total + length piece.now) }
-    ensures same { opened.new.bytes.ghost_name ≡ opened.old.bytes.ghost_name }
-    ensures not_read { IfErr result (λ cause. cause ≢ RunCause.Read) }
-    ensures writer_fails { WriterEndsCall W.Writer writer.old writer.new result }
-    ensures edits { KeepsEdits opened.old.bytes.now opened.new.bytes.now begun.old.count
-        begun.new.count }
-    ensures taken { TakesPiece W.Writer piece.now opened.old.bytes.now opened.new.bytes.now writer.old writer.new begun.old begun.new result }
-{
-    let room = LONGEST_INPUT - begun.total;
-    if piece.len() as u64 <= room {
-        return feed(alloc, opened, begun, piece, writer);
-    }
-    let allowed = room as usize;
-    match feed(alloc, opened, begun, &piece[..allowed], writer) {
-        Ok(()) => {}
-        Err(cause) => return Err(cause),
-    }
-    if piece[allowed] == b'\n' || begun.line.len() < LONGEST_LINE {
-        return Err(RunCause::InputTooLong);
-    }
-    Err(RunCause::LineTooLong)
-}
-
-/// Carries out the last line, if it has no newline.
-pub(super) fn end_input<G: Scan, W: Writer>(
-    alloc: Global,
-    opened: &mut Opened<'_, G>,
-    begun: &mut Begun,
-    writer: &mut W,
-) -> Result<(), RunCause>
-    requires { W.failures writer.old < 2 ^ 64 - 1 }
-    ensures same { opened.new.bytes.ghost_name ≡ opened.old.bytes.ghost_name }
-    ensures not_read { IfErr result (λ cause. cause ≢ RunCause.Read) }
-    ensures writer_fails { WriterEndsCall W.Writer writer.old writer.new result }
-    ensures edits { KeepsEdits opened.old.bytes.now opened.new.bytes.now begun.old.count
-        begun.new.count }
-    ensures ended { EndsInput W.Writer opened.old.bytes.now opened.new.bytes.now writer.old writer.new begun.old begun.new result }
-{
-    if begun.line.is_empty() {
-        return Ok(());
-    }
-    let answered = answer_line(
-        alloc,
-        opened,
-        begun.line.as_slice(),
-        &mut begun.count,
-        writer,
-    );
-    begun.line.clear();
-    answered
 }

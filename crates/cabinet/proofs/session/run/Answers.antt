@@ -1,53 +1,74 @@
-use Rattle.std.proofs.Common.{◌≡◌, [], refl, sym, ◌∙◌, arith}
-use Rattle.cabinet.specs.Steps.{read_failed}
-use Rattle.cabinet.proofs.SessionsProgress.{begins_at, none_edited_at, read_fault, same_left, faulted_along}
+use Rattle.std.proofs.Common.{◌≡◌, ◌∷◌, ◌≤◌, length, refl, sym, ap, subst, ◌∙◌, arith}
+use Rattle.cabinet_text.specs.Input.{longest_line}
+use Rattle.cabinet_text.specs.LineReading.{IsAt}
+use Rattle.cabinet_text.specs.Session.{lines_in_place}
+use Rattle.cabinet_text.proofs.EditLines.{starts}
+use Rattle.cabinet_text.proofs.Sessions.{when_true, when_false, all_said}
+use Rattle.cabinet.proofs.Sessions.{none_edited, none_carried, carried_before}
 use Rattle.cabinet.proofs.session.run.Goals as goal
 
-pub loop-len-init : goal.loop-len-init
-loop-len-init g c = record {
-  same = refl;
-  reader_quiet = refl;
-  writer_quiet = refl;
-  edited = none_edited_at _ _ _ c.new-begun.ensures.lines c.new-begun.ensures.edits;
-  progress = λ r w. begins_at _ _ _ _ _ _ _ c.new-begun.ensures.lines c.new-begun.ensures.edits c.new-begun.ensures.line c.new-begun.ensures.total;
-}
+pub loop-count-init : goal.loop-count-init
+loop-count-init g c =
+    let total : c.new-lines.result.total ≡ 0 = ap (λ l. l.total) c.new-lines.ensures in
+    record {
+      same = refl;
+      reader_quiet = refl;
+      writer_quiet = refl;
+      edits_within = omega arith;
+      lines_within = omega arith;
+      within = omega (arith, total);
+      edited = none_edited c.args.opened.now.bytes.now;
+      carried = λ r w. none_carried _ _ _;
+      at = λ r. subst (IsAt _ _ 0) (sym c.new-lines.ensures) (starts _);
+    }
+
+pub returns-in-Ok-false-clause-all : goal.returns-in-Ok-false-clause-all
+returns-in-Ok-false-clause-all g c = λ r w.
+    let i = c.loop-count.invariant in
+    let a = i.carried r w in
+    let none = when_false _ _ _ c.in-Ok-false.field-0-test (c.in-Ok-false.ensures.found r _ _ (i.at r)) in
+    record {
+      carried = a;
+      all = all_said lines_in_place (g.R.Source.left c.args.reader.now) a.said _ a.say a.count none.none;
+      short = none.short;
+    }
 
 pub returns-in-Err-clause-fault : goal.returns-in-Err-clause-fault
 returns-in-Err-clause-fault g c = λ r w.
-    let p = same_left _ _ _ _ _ _ _ _ _ _ _ (sym (c.in-Err.ensures.kept r)) (c.loop-len.invariant.progress r w) in
+    let i = c.loop-count.invariant in
     let e = c.after.ensures in
-    faulted_along _ _ _ _ _ _ _ _ _ _ _ _ _ e.lines e.edits e.cause (read_failed refl p.carried (read_fault _ _ _ _ _ _ _ _ _ _ p))
+    let carried = carried_before g.W.Writer.COUNTS _ _ _ _ _ _ _ c.in-Err.cause c.in-Err.ensures.not_write (i.carried r w) in
+    rw (e.cause, e.lines, e.edits) (carried, c.in-Err.ensures.found r _ _ (i.at r))
 
-pub returns-in-Err-take_piece-clause-fault : goal.returns-in-Err-take_piece-clause-fault
-returns-in-Err-take_piece-clause-fault g c = λ r w.
-    let e = c.after-in-Err-take_piece.ensures in
-    faulted_along _ _ _ _ _ _ _ _ _ _ _ _ _ e.lines e.edits e.cause
-    (c.in-Err-take_piece.ensures.taken w _ _ _ (g.R.Source.left c.read.new.self) (g.R.Source.left c.read.new.self) (same_left _ _ _ _ _ _ _ _ _ _ _ (c.in-Ok.ensures.bytes r) (c.loop-len.invariant.progress r w)))
-
-pub returns-in-Ok-end_input-clause-all : goal.returns-in-Ok-end_input-clause-all
-returns-in-Ok-end_input-clause-all g c = λ r w.
-    let end : g.R.Source.left c.loop-len.reader ≡ [] = c.in-Ok.ensures.end r c.if-len-eq0.true (omega arith) in
-    c.in-Ok-end_input.ensures.ended w _ _ _ [] (same_left _ _ _ _ _ _ _ _ _ _ _ end (c.loop-len.invariant.progress r w))
-
--- the clause about a fault states nothing where there is none
-pub returns-in-Ok-end_input-clause-fault : goal.returns-in-Ok-end_input-clause-fault
-returns-in-Ok-end_input-clause-fault g c = λ r w. tt
-
-pub returns-clause-fault : goal.returns-clause-fault
-returns-clause-fault g c = λ r w.
-    let end : g.R.Source.left c.loop-len.reader ≡ [] = c.in-Ok.ensures.end r c.if-len-eq0.true (omega arith) in
-    let e = c.after-in-Err-end_input.ensures in
-    faulted_along _ _ _ _ _ _ _ _ _ _ _ _ _ e.lines e.edits e.cause
-    (c.in-Err-end_input.ensures.ended w _ _ _ (g.R.Source.left c.read.new.self) (same_left _ _ _ _ _ _ _ _ _ _ _ end (c.loop-len.invariant.progress r w)))
-
-pub loop-len-preserved : goal.loop-len-preserved
-loop-len-preserved g c =
-    let i = c.loop-len.invariant in
-    let e = c.in-Ok-take_piece.ensures in
+pub loop-count-preserved : goal.loop-count-preserved
+loop-count-preserved g c =
+    let i = c.loop-count.invariant in
+    let e = c.in-Ok.ensures in
+    let longer = c.in-Ok-true.ensures.counted c.in-Ok-true.field-0-test in
+    let short = subst (λ l. length l ≤ longest_line) (sym c.line.ensures) c.in-Ok-true.ensures.short in
     record {
       same = e.same ∙ i.same;
-      reader_quiet = c.in-Ok.ensures.quiet ∙ i.reader_quiet;
+      reader_quiet = c.in-Ok-true.ensures.reader_fails ∙ i.reader_quiet;
       writer_quiet = e.writer_fails ∙ i.writer_quiet;
+      edits_within = e.edits_within;
+      lines_within = omega (arith, e.line_counted, longer, i.lines_within);
+      within = c.advance.ensures.within;
       edited = e.edits _ i.edited;
-      progress = λ r w. e.taken w _ _ _ [] (g.R.Source.left c.read.new.self) (same_left _ _ _ _ _ _ _ _ _ _ _ (c.in-Ok.ensures.bytes r) (i.progress r w));
+      carried = λ r w.
+          let n = when_true _ _ _ c.in-Ok-true.field-0-test (c.in-Ok-true.ensures.found r _ _ (i.at r)) in
+          let next = n.next ∙ ap (λ l. l ∷ n.later) (sym c.line.ensures) in
+          e.carried w _ _ _ (g.R.Source.left c.advance.new.reader) n.later (i.carried r w) next short;
+      at = λ r.
+          let n = when_true _ _ _ c.in-Ok-true.field-0-test (c.in-Ok-true.ensures.found r _ _ (i.at r)) in
+          rw e.line_counted n.behind;
     }
+
+pub returns-in-Err-answer_line-clause-fault : goal.returns-in-Err-answer_line-clause-fault
+returns-in-Err-answer_line-clause-fault g c = λ r w.
+    let i = c.loop-count.invariant in
+    let e = c.after-in-Err-answer_line.ensures in
+    let n = when_true _ _ _ c.in-Ok-true.field-0-test (c.in-Ok-true.ensures.found r _ _ (i.at r)) in
+    let next = n.next ∙ ap (λ l. l ∷ n.later) (sym c.line.ensures) in
+    let short = subst (λ l. length l ≤ longest_line) (sym c.line.ensures) c.in-Ok-true.ensures.short in
+    rw (e.cause, e.lines, e.edits)
+    (c.in-Err-answer_line.ensures.carried w _ _ _ (g.R.Source.left c.advance.new.reader) n.later (i.carried r w) next short)

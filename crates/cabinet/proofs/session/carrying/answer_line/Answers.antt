@@ -1,10 +1,7 @@
-use Rattle.std.proofs.Common.{refl}
 use Rattle.std.specs.Prelude.{option_map}
 use Rattle.cabinet_text_nodes.specs.View.{line_of}
-use Rattle.cabinet.specs.Steps.{memory_refused, write_failed}
 use Rattle.cabinet.proofs.Sessions.{step, carried_cut, edited_by_one}
-use Rattle.cabinet.proofs.SessionsGiven.{refused_some}
-use Rattle.cabinet.proofs.SessionsProgress.{next_left}
+use Rattle.cabinet_text.proofs.EmptyLine.{refused_some}
 use Rattle.cabinet.proofs.session.carrying.answer_line.Goals as goal
 
 pub returns-in-Ok-carry_out-clause-edits : goal.returns-in-Ok-carry_out-clause-edits
@@ -18,7 +15,7 @@ returns-clause-edits g c = λ x h.
     edited_by_one x _ _ _ _ _ c.args.line.now (option_map line_of c.in-Ok.said) c.in-Ok.ensures.said e.edited e.edits_counted h
 
 pub returns-in_default-clause-carried : goal.returns-in_default-clause-carried
-returns-in_default-clause-carried g c = λ w input x old left more p n s. memory_refused refl p (next_left input c.args.line.now _ more n (refused_some c.args.line.now c.in_default.ensures.memory))
+returns-in_default-clause-carried g c = λ w input x old left more p n s. (p, record { line = c.args.line.now; later = more; left = n; some = refused_some c.args.line.now c.in_default.ensures.memory })
 
 pub returns-in-Ok-carry_out-clause-carried : goal.returns-in-Ok-carry_out-clause-carried
 returns-in-Ok-carry_out-clause-carried g c = λ w input x old left more p n s.
@@ -28,5 +25,4 @@ returns-in-Ok-carry_out-clause-carried g c = λ w input x old left more p n s.
 pub returns-clause-carried : goal.returns-clause-carried
 returns-clause-carried g c = λ w input x old left more p n s.
     let e = c.in-Err.ensures in
-    write_failed refl
-    (carried_cut input x _ _ old _ _ _ _ _ c.args.line.now more (option_map line_of c.in-Ok.said) p n s c.in-Ok.ensures.said e.edited e.edits_counted _ (λ t a. (e.written t a).is_cut w) (λ u t a. (e.written t a).is_short w u))
+    ((carried_cut input x _ _ old _ _ _ _ _ c.args.line.now more (option_map line_of c.in-Ok.said) p n s c.in-Ok.ensures.said e.edited e.edits_counted _ (λ t a. (e.written t a).is_cut w) (λ u t a. (e.written t a).is_short w u)), tt)

@@ -1,5 +1,5 @@
 use Rattle.cabinet_text_nodes.specs.View.{line_of}
-use Rattle.cabinet.proofs.Questions.{question_done}
+use Rattle.cabinet_text.proofs.Questions.{question_done}
 use Rattle.cabinet.proofs.Sessions.{edited_by_question}
 use Rattle.cabinet.proofs.session.carrying.answer_question.Goals as goal
 

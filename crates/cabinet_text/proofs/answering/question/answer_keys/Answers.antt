@@ -1,6 +1,4 @@
-use Rattle.std.proofs.Common.{◌≡◌, [], ap, sym, ◌∙◌, subst}
 use Rattle.std.proofs.lemmas.Result.{err_from_is_err_and}
-use Rattle.cabinet_text_grammar.specs.Answering.{keys_of, keys_are, keys_in, spelled_answer}
 use Rattle.cabinet_text_nodes.proofs.Views.{node_tree-ordered, node_tree-kept}
 use Rattle.cabinet_text.proofs.Pieces.{keys_same}
 use Rattle.cabinet_text.proofs.answering.question.answer_keys.Goals as goal
