@@ -61,16 +61,18 @@ start() {
 }
 
 # the programs that the merge gate proved and built
-for program in cab cab_show; do
+for program in cab cab_show cab_edit; do
     mkdir -p "crates/$program/out" && cp "$gate/crates/$program/out/$program" "crates/$program/out/$program"
 done
 cab=$PWD/crates/cab/out/cab
 show=$PWD/crates/cab_show/out/cab_show
-start 'the programs on files' 'a program failed' tests/program.sh "$cab" "$show"
+edit=$PWD/crates/cab_edit/out/cab_edit
+start 'the programs on files' 'a program failed' tests/program.sh "$cab" "$show" "$edit"
+start 'documents that grow, beside a reference' 'a document is other than that of the reference' tests/growing.py "$cab" "$show" "$edit"
 start 'the filters to and from JSON' 'a filter failed' tests/json.sh "$cab" "$show"
 start 'many archives in a database' 'the archives in a database failed' tests/many.sh "$cab" "$show"
 start 'the programs with refused calls' 'a refused call was not told' \
-    tests/refused.sh "$cab" "$show" "$gate/crates/cabinet_refused/out/cabinet_refused" "$gate/crates/archive_example/out/archive_example"
+    tests/refused.sh "$cab" "$show" "$edit" "$gate/crates/cabinet_refused/out/cabinet_refused" "$gate/crates/archive_example/out/archive_example"
 # The merge gate leaves no static library. `rt lib` builds it over the libraries that `rt check` has left here; where there
 # are none it would prove each of them once more.
 if [ -f crates/cabinet/out/rlib/stamp ]; then

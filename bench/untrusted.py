@@ -1,8 +1,8 @@
 #!/usr/bin/env python3
 # Usage: bench/untrusted.py CAB CAB_SHOW. What archives cost that a stranger made so that they are slow to open or large to
 # load: hashed maps whose keys have one hash; hashed maps with one empty place, where a search finds a key late; and a list
-# of wholes which all have one long shared text. Prints the size of each archive, the least processor time of five runs of
-# `cab run` without lines, and the time and the most memory of `cab_show`.
+# of wholes which all have one long shared text. Prints the size of each archive, the least processor times of five runs of
+# `cab run` without lines and of `cab_show`, and the most memory of `cab_show`.
 import itertools
 import re
 import resource
@@ -150,7 +150,7 @@ def measure(title: str, archive: bytes) -> None:
         file.write(archive)
         file.flush()
         opened = min(processor_time([cab, "run", file.name]) for _ in range(5))
-        shown = processor_time([show, file.name])
+        shown = min(processor_time([show, file.name]) for _ in range(5))
         held = most_memory([show, file.name])
     print(f"{title}: {len(archive):,} bytes; opened in {opened:.3f} s; shown in {shown:.2f} s with {held / 1000:.1f} MB")
 

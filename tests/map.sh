@@ -96,7 +96,7 @@ def faults():
         ("crates/cabinet_text_nodes/src/line.rt", "LineRefusal"),
         ("crates/cabinet_archives/src/opening/refusal.rt", "OpenRefusal"),
         ("crates/cabinet_archives/src/saving/saving.rt", "SaveRefusal"),
-        ("crates/cabinet/src/session.rt", "RunCause"),
+        ("crates/cabinet_text/src/session.rt", "RunCause"),
         ("crates/cabinet/src/fault.rt", "Fault"),
     ]:
         variants = re.search(rf"pub enum {kind} \{{\n(.*?)\n\}}", text_of(path), re.S)

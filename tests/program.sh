@@ -1,11 +1,24 @@
 #!/usr/bin/env bash
-# Runs cab and cab_show on files in a temporary folder: the programs whose paths are given, or else those of crates/cab
-# and crates/cab_show. Each case compares what they print, their faults, their status and the files that they leave with
-# what is written here.
+# Usage: tests/program.sh [CAB CAB_SHOW CAB_EDIT]. Runs cab, cab_show and cab_edit on files in a temporary folder: the programs
+# whose paths are given, or else those of crates/cab, crates/cab_show and crates/cab_edit. Each case compares what they print,
+# their faults, their status and the files that they leave with what is written here.
 set -u
 . "$(dirname "$0")/steps.sh"
 . "$root/tests/bytes.sh"
 . "$root/tests/made.sh"
+
+cab_edit=$work/cab_edit
+edit_usage='cab_edit: usage: cab_edit ARCHIVE | cab_edit --new KIND ARCHIVE\n'
+if [ $# -eq 0 ]; then
+    proved cab_edit --new list "$work/new.cab"
+fi
+cp "${3:-$root/crates/cab_edit/out/cab_edit}" "$cab_edit" && chmod +x "$cab_edit" || exit 1
+
+# runs cab_edit with the given words
+edit() {
+    "$cab_edit" "$@" < input > output 2> errors
+    ended=$?
+}
 
 # ---- the cases that differ in their texts alone
 
@@ -86,6 +99,76 @@ misused() {
     lacks run
     lacks a.cab
     finish
+}
+
+# is_built TEXT: a.cab has the bytes that cab build makes of a text, and nothing else is left
+is_built() {
+    text "$1\n"
+    run build text built.cab
+    ends 0 ''
+    cmp -s a.cab built.cab || differs 'the archive has other bytes'
+    leaves a.cab built.cab text
+}
+
+# edits NAME TEXT LINES ANSWERS TEXT: the answers to lines in the archive of a text, and the text of the document after them
+edits() {
+    begin "edited: $1"
+    text "$2\n"
+    run build text a.cab
+    lines "$3"
+    edit a.cab
+    prints "$4"
+    ends 0 ''
+    is_built "$5"
+    finish
+}
+
+# makes NAME KIND LINES ANSWERS TEXT: the same of a new archive
+makes() {
+    begin "made: $1"
+    lines "$3"
+    edit --new "$2" a.cab
+    prints "$4"
+    ends 0 ''
+    is_built "$5"
+    finish
+}
+
+# keeps NAME TEXT LINES ANSWERS: lines of which none edits, after which the file is untouched
+keeps() {
+    begin "not edited: $1"
+    text "$2\n"
+    run build text a.cab
+    touch -d '2001-02-03 04:05:06' a.cab
+    before=$(stat -c '%i %y' a.cab)
+    lines "$3"
+    edit a.cab
+    prints "$4"
+    ends 0 ''
+    file_is a.cab '%i %y' "$before"
+    is_built "$2"
+    finish
+}
+
+# misused_edit WORD..: words that are not a command of cab_edit
+misused_edit() {
+    begin "other words of cab_edit: $*"
+    archive "$five"
+    lines 'put int 6\n'
+    edit "$@"
+    prints ''
+    ends 2 "$edit_usage"
+    holds a.cab "$five"
+    leaves a.cab
+    finish
+}
+
+# not_new PATH: no new archive is made at a path where something is, and no line is carried out
+not_new() {
+    lines 'put int 6\n'
+    edit --new list "$1"
+    prints ''
+    ends 1 "cab: cannot write $1\n"
 }
 
 # prints a line of $1 bytes
@@ -2426,6 +2509,339 @@ done
 # ---- cab_show --map
 
 . "$root/tests/maps.sh"
+
+# ---- cab_edit
+
+misused_edit
+misused_edit a.cab more
+misused_edit --new list
+misused_edit --new a.cab
+misused_edit --new tree a.cab
+misused_edit --new list a.cab more
+misused_edit --NEW list a.cab
+misused_edit --new LIST a.cab
+misused_edit --new '' a.cab
+misused_edit new list a.cab
+misused_edit $'\xff.cab'
+misused_edit --new $'\xff' a.cab
+
+three_puts="put int 2 'b\nput int 1 'a\nput int 3 'c\nkeys\n"
+makes 'an ordered map' ordered "$three_puts" "ok\nok\nok\nkeys 3 'a 'b 'c\n" "ordered 3\n'a\nint 1\n'b\nint 2\n'c\nint 3"
+makes 'a kept map' kept "$three_puts" "ok\nok\nok\nkeys 3 'b 'a 'c\n" "kept 3\n'b\nint 2\n'a\nint 1\n'c\nint 3"
+makes 'a hashed map' hashed "$three_puts" 'ok\nok\nok\nwrong\n' "hashed 3\n'a\nint 1\n'b\nint 2\n'c\nint 3"
+makes 'a list' list 'insert int 7 #0\nput int 19 #1\ninsert int 5 #0\nget\n' 'ok\nok\nok\nlist 3\n' 'list 3\nint 5\nint 7\nint 19'
+makes 'an option' none 'put int 5 ?\nget\nget ?\n' 'ok\nsome\nint 5\n' 'some\nint 5'
+makes 'a leaf in the place of the root' list 'put int 5\nget\n' 'ok\nint 5\n' 'int 5'
+makes 'containers in one another' ordered \
+    "put list 0 'a\ninsert kept 0 'a #0\nput none 'a #0 'k\nput shared 't 'a #0 'k ?\ninsert text 'long\\\\sand\\\\sshared 'a #1\nput hashed 0 'b\nget 'a\n" \
+    'ok\nok\nok\nok\nok\nok\nlist 2\n' "ordered 2\n'a\nlist 2\nkept 1\n'k\nsome\nshared 't\ntext 'long\\\\sand\\\\sshared\n'b\nhashed 0"
+makes 'the settings, line by line' ordered \
+    "put none 'backup\nput ordered 0 'backup ?\nput text '/srv/backup 'backup ? 'folder\nput list 0 'backup ? 'hours\nput int 18 'backup ? 'hours #0\ninsert int 6 'backup ? 'hours #0\nput ordered 0 'window\nput int 1280 'window 'width\nput bool false 'window 'maximized\nput int 800 'window 'height\nput none 'proxy\nput text 'en-GB 'language\n" \
+    "$(printf 'ok\\n%.0s' {1..12})" "$(sed ':all; N; $! b all; s/\n/\\n/g' "$root/examples/settings/text")"
+for kind in list ordered hashed kept; do
+    makes "no lines: $kind" $kind '' '' "$kind 0"
+done
+makes 'no lines: none' none '' '' none
+makes 'questions alone' list 'get\nget #0\n' 'list 0\nmissing\n' 'list 0'
+
+edits 'a list grows at its end' 'list 2\nint 7\nint 19' 'insert int 5 #2\nput int 6 #3\nget\nput int 1 #5\ninsert int 1 #5\n' \
+    'ok\nok\nlist 4\nmissing\nmissing\n' 'list 4\nint 7\nint 19\nint 5\nint 6'
+edits 'elements move back' 'list 2\nint 7\nint 19' 'insert int 5 #0\nget #1\ninsert int 6 #2\nget #3\n' 'ok\nint 7\nok\nint 19\n' \
+    'list 4\nint 5\nint 7\nint 6\nint 19'
+edits 'an element is replaced' 'list 2\nint 7\nint 19' "put text 'a #0\nput list 0 #1\nput none #1 #0\n" 'ok\nok\nok\n' "list 2\ntext 'a\nlist 1\nnone"
+edits 'an element is removed' 'list 3\nint 7\nint 19\nint 5' 'remove #1\nget #1\nremove #2\n' 'ok\nint 5\nmissing\n' 'list 2\nint 7\nint 5'
+for kind in ordered hashed kept; do
+    edits "a key is removed: $kind" "$kind 2\n'a\nint 1\n'b\nint 2" "remove 'a\nremove 'a\nget 'a\nget 'b\n" 'ok\nmissing\nmissing\nint 2\n' "$kind 1\n'b\nint 2"
+    edits "a key is replaced: $kind" "$kind 2\n'a\nint 1\n'b\nint 2" "put text 'longer\\\\sthan\\\\sa\\\\snode 'a\nget 'a\n" \
+        "ok\ntext 'longer\\\\sthan\\\\sa\\\\snode\n" "$kind 2\n'a\ntext 'longer\\\\sthan\\\\sa\\\\snode\n'b\nint 2"
+done
+edits 'a removed key is put at the end of a kept map' "kept 2\n'b\nint 1\n'a\nint 2" "remove 'b\nput int 3 'b\nkeys\n" "ok\nok\nkeys 2 'a 'b\n" \
+    "kept 2\n'a\nint 2\n'b\nint 3"
+edits "an option's content is removed" 'some\nint 5' 'remove ?\nget\nremove ?\n' 'ok\nnone\nmissing\n' none
+edits 'a longer text' "list 1\ntext 'abc" "put text 'abcdefghijklm #0\nget #0\nset text 'x #0\nset text 'ABCDEFGHIJKLM #0\n" \
+    "ok\ntext 'abcdefghijklm\nrefused\nok\n" "list 1\ntext 'ABCDEFGHIJKLM"
+edits 'equal shared texts, which are one in the archive' 'list 0' "insert shared 'hello\\\\sworld! #0\ninsert shared 'hello\\\\sworld! #1\nget #1\n" \
+    "ok\nok\nshared 'hello\\\\sworld!\n" "list 2\nshared 'hello\\\\sworld!\nshared 'hello\\\\sworld!"
+edits 'the root is replaced' 'list 1\nint 7' "put int 5\nput ordered 0\nput none 'a\nget\n" 'ok\nok\nok\nordered 1\n' "ordered 1\n'a\nnone"
+edits 'a leaf is set' 'int 5' 'set int 6\nget' 'ok\nint 6\n' 'int 6'
+edits 'an edit to the value that is there' 'int 5' 'put int 5\n' 'ok\n' 'int 5'
+edits 'lines that are none' "ordered 1\n'a\nint 1" "put\nput list 1 'a\nremove  'a\nput int 05 'a\nput some 'a\nput whole 0 'a\ninsert\nremoved\n\nput int 5\n" \
+    'bad\nbad\nbad\nbad\nbad\nbad\nbad\nbad\nbad\nok\n' 'int 5'
+edits 'beside a whole' 'wholes 1\nint 5\nlist 2\nwhole 0\nwhole 0' 'put int 6 #0 ?\nremove #0 ?\nput int 6 #0\nremove #0\nput int 7 #2\ninsert int 8 #0\nget #1\n' \
+    'refused\nrefused\nrefused\nrefused\nok\nok\nwhole\n' 'wholes 1\nint 5\nlist 4\nint 8\nwhole 0\nwhole 0\nint 7'
+edits 'the last option of 64' "$(printf 'some\\n%.0s' {1..63})none" "put int 6$(printf ' ?%.0s' {1..64})\nput list 0$(printf ' ?%.0s' {1..64})\n" 'ok\nrefused\n' \
+    "$(printf 'some\\n%.0s' {1..64})int 6"
+
+keeps 'no input' 'int 5' '' ''
+keeps 'questions alone' "ordered 2\n'a\nint 1\n'b\nint 2" "get\nkeys\nrange 'b 'c\nget 'c\nget #0\n" "ordered 2\nkeys 2 'a 'b\nkeys 1 'b\nmissing\nmissing\n"
+keeps 'the root stays' 'list 1\nint 7' 'remove\ninsert int 5\nget\n' 'refused\nmissing\nlist 1\n'
+keeps 'a root with a whole in it is not replaced' 'wholes 1\nint 5\nlist 1\nwhole 0' 'put int 6\nput list 0\n' 'refused\nrefused\n'
+keeps 'a node with a whole in it is neither replaced nor removed' "wholes 1\nint 5\nordered 1\n'a\nlist 1\nwhole 0" "put int 6 'a\nremove 'a\n" 'refused\nrefused\n'
+keeps '65 containers' "$(printf 'some\\n%.0s' {1..64})int 5" "put none$(printf ' ?%.0s' {1..64})\nget$(printf ' ?%.0s' {1..64})\n" 'refused\nint 5\n'
+keeps 'steps that lead to nothing' "list 1\nint 5" "put int 1 'a\nput int 1 ?\nput int 1 #0 #0\nput int 1 #2\nremove 'a\nremove #1\ninsert int 1 'a\ninsert int 1 #0 #0\ninsert int 1 #2\n" \
+    'missing\nmissing\nmissing\nmissing\nmissing\nmissing\nmissing\nmissing\nmissing\n'
+keeps 'leaves of other kinds are not set' 'list 2\nint 5\nnone' "set bool true #0\nset int 5 #1\nset int 5 ?\n" 'refused\nrefused\nmissing\n'
+
+begin 'the bytes behind an archive stay until it is edited'
+archive "${five}bbbbbbbbbbbbbb"
+lines 'get\n'
+edit a.cab
+prints 'int 5\n'
+ends 0 ''
+holds a.cab "${five}bbbbbbbbbbbbbb"
+lines 'put int 6\n'
+edit a.cab
+prints 'ok\n'
+ends 0 ''
+holds a.cab "$six"
+leaves a.cab
+finish
+
+begin 'an archive of equal wholes apart has them as one after an edit'
+archive "$five$five$again$again$two"
+lines 'insert int 7 #2\n'
+edit a.cab
+prints 'ok\n'
+ends 0 ''
+is_built 'wholes 1\nint 5\nlist 3\nwhole 0\nwhole 0\nint 7'
+finish
+
+begin 'a document that grows by 3,000 lines, and is emptied by as many'
+numbers=$(seq 0 2999)
+sed "s/.*/put int & 'key&/" <<< "$numbers" > input
+edit --new hashed a.cab
+yes ok | head -n 3000 | cmp -s - output || differs 'the answers are others'
+ends 0 ''
+{ echo 'hashed 3000'; sed "s/.*/'key&\nint &/" <<< "$numbers" | paste - - | LC_ALL=C sort -t "$(printf '\t')" -k 1,1 | tr '\t' '\n'; } > wanted
+show a.cab
+cmp -s output wanted || differs 'another text is shown'
+run build wanted built.cab
+cmp -s a.cab built.cab || differs 'the archive has other bytes'
+sed "s/.*/remove 'key&/" <<< "$numbers" > input
+edit a.cab
+yes ok | head -n 3000 | cmp -s - output || differs 'the answers are others'
+ends 0 ''
+rm built.cab wanted
+is_built 'hashed 0'
+finish
+
+for bytes in '' "${five/01/0a}" 02000000fe6f726c64ffffff000000000000000000000000; do
+    begin "no archive is edited: ${bytes:-no bytes}"
+    archive "$bytes"
+    lines 'get\nput int 6\n'
+    edit a.cab
+    prints ''
+    ends 1 'cab: open: Access\n'
+    holds a.cab "$bytes"
+    leaves a.cab
+    finish
+done
+
+begin 'an archive that is not there is not edited'
+lines 'put int 6\n'
+edit a.cab
+prints ''
+ends 1 'cab: cannot read a.cab\n'
+leaves
+finish
+
+begin 'cab_edit: the longest line, and one that is too long'
+archive "$five"
+{ echo 'put int 6'; long_line 1048576; long_line 1048577; echo 'put int 7'; } > input
+edit a.cab
+prints 'ok\nbad\n'
+ends 1 'cab: run: LineTooLong after 2 lines\n'
+holds a.cab "$six"
+leaves a.cab
+finish
+
+begin 'a new archive is written after a line that is too long'
+{ echo 'insert int 7 #0'; long_line 1048577; } > input
+edit --new list a.cab
+prints 'ok\n'
+ends 1 'cab: run: LineTooLong after 1 lines\n'
+is_built 'list 1\nint 7'
+finish
+
+for output in /dev/full closed; do
+    begin "cab_edit: answers are not written: $output"
+    archive "$five"
+    lines 'put int 6\n'
+    if [ $output = closed ]; then
+        "$cab_edit" a.cab < input >&- 2> errors
+    else
+        "$cab_edit" a.cab < input > $output 2> errors
+    fi
+    ended=$?
+    ends 1 'cab: run: Write after 1 lines\n'
+    holds a.cab "$six"
+    finish
+done
+
+begin 'cab_edit: the standard input is closed'
+archive "$five"
+"$cab_edit" a.cab <&- > output 2> errors
+ended=$?
+prints ''
+ends 1 'cab: run: Read after 0 lines\n'
+holds a.cab "$five"
+leaves a.cab
+finish
+
+begin 'an edited file that goes away before it is written'
+archive "$five"
+{ many_gets; rm a.cab; echo 'put int 6'; } | "$cab_edit" a.cab > output 2> errors
+ended=$?
+prints_many 'ok\n'
+ends 1 'cab: cannot write a.cab\n'
+leaves
+finish
+
+begin 'of the faults of an edit the first is told'
+archive "$five"
+{ many_gets; rm a.cab; echo 'put int 6'; long_line 1048577; } | "$cab_edit" a.cab > output 2> errors
+ended=$?
+prints_many 'ok\n'
+ends 1 'cab: run: LineTooLong after 100001 lines\n'
+lacks a.cab
+finish
+
+begin 'an edit of a file that is edited meanwhile is refused'
+archive "$five"
+{ many_gets; echo 'put int 7' | "$cab_edit" a.cab > other 2>&1; echo 'put int 6'; } | "$cab_edit" a.cab > output 2> errors
+ended=$?
+prints_many 'ok\n'
+ends 1 'cab: cannot write a.cab\n'
+holds a.cab "$seven"
+[ "$(cat other)" = ok ] || differs "the earlier one printed $(head -c 200 other)"
+leaves a.cab other
+finish
+
+begin 'questions of cab_edit are not refused then'
+archive "$five"
+{ many_gets; echo 'put int 7' | "$cab_edit" a.cab > other 2>&1; echo get; } | "$cab_edit" a.cab > output 2> errors
+ended=$?
+prints_many 'int 5\n'
+ends 0 ''
+holds a.cab "$seven"
+leaves a.cab other
+finish
+
+if command -v flock > /dev/null; then
+    begin 'an edit of a file that another program has locked is refused'
+    archive "$five"
+    lines 'put int 6\n'
+    flock a.cab "$cab_edit" a.cab < input > output 2> errors
+    ended=$?
+    prints 'ok\n'
+    ends 1 'cab: cannot write a.cab\n'
+    holds a.cab "$five"
+    leaves a.cab
+    finish
+fi
+
+begin 'an edited file keeps its permissions, and a link to it stays'
+mkdir folder
+archive "$five"
+mv a.cab folder/old.cab
+chmod 640 folder/old.cab
+ln -s folder/old.cab a.cab
+lines 'put list 0\ninsert int 7 #0\n'
+edit a.cab
+prints 'ok\nok\n'
+ends 0 ''
+file_is folder/old.cab %a 640
+[ "$(readlink a.cab)" = folder/old.cab ] || differs 'the link was replaced'
+[ "$(ls -A folder)" = old.cab ] || differs "the folder has $(ls -A folder)"
+show a.cab
+prints 'list 1\nint 7\n'
+ends 0 ''
+finish
+
+if [ ${#user[@]} -gt 0 ] && ! "${user[@]}" test -x "$cab_edit" 2> /dev/null; then
+    begin 'edited archives in folders of another user'
+    skip 'no command runs cab_edit as another user'
+else
+    begin 'a folder that takes no new file: an edited archive is written as it lies, and gets its new length'
+    mkdir folder
+    archive "$five"
+    mv a.cab folder
+    chmod 666 folder/a.cab
+    chmod 555 folder
+    before=$(stat -c '%i %a %u' folder/a.cab)
+    for row in 'put list 0|list 0' 'insert int 7 #0|list 1\nint 7' "insert text 'longer\\\\sthan\\\\sa\\\\snode #1|list 2\nint 7\ntext 'longer\\\\sthan\\\\sa\\\\snode" \
+        'remove #1|list 1\nint 7' 'put int 5|int 5'; do
+        lines "${row%%|*}\n"
+        "${user[@]}" "$cab_edit" folder/a.cab < input > output 2> errors
+        ended=$?
+        prints 'ok\n'
+        ends 0 ''
+        text "${row#*|}\n"
+        run build text built.cab
+        cmp -s folder/a.cab built.cab || differs "the archive has other bytes after ${row%%|*}"
+    done
+    file_is folder/a.cab '%i %a %u' "$before"
+    [ "$(ls -A folder)" = a.cab ] || differs "the folder has $(ls -A folder)"
+    : > input
+    "${user[@]}" "$cab_edit" --new list folder/new.cab < input > output 2> errors
+    ended=$?
+    prints ''
+    ends 1 'cab: cannot write folder/new.cab\n'
+    chmod 444 folder/a.cab
+    lines 'put list 0\n'
+    "${user[@]}" "$cab_edit" folder/a.cab < input > output 2> errors
+    ended=$?
+    prints 'ok\n'
+    ends 1 'cab: cannot write folder/a.cab\n'
+    holds folder/a.cab "$five"
+    [ "$(ls -A folder)" = a.cab ] || differs "the folder has $(ls -A folder)"
+    chmod 755 folder
+    finish
+fi
+
+begin 'a new archive has the permissions of one that is built'
+text 'list 0\n'
+run build text built.cab
+edit --new list a.cab
+ends 0 ''
+file_is a.cab %a "$(stat -c %a built.cab)"
+is_built 'list 0'
+finish
+
+begin 'no new archive where a file is'
+archive "$six"
+touch -d '2001-02-03 04:05:06' a.cab
+before=$(stat -c '%i %y' a.cab)
+not_new a.cab
+file_is a.cab '%i %y' "$before"
+holds a.cab "$six"
+leaves a.cab
+finish
+
+begin 'no new archive where a folder or a link is, or in no folder'
+mkdir folder
+not_new folder
+ln -s nothing link
+not_new link
+[ "$(readlink link)" = nothing ] || differs 'the link was replaced'
+archive "$five"
+not_new a.cab/new.cab
+leaves a.cab folder link
+lines ''
+edit --new list no-folder/a.cab
+prints ''
+ends 1 'cab: cannot write no-folder/a.cab\n'
+leaves a.cab folder link
+finish
+
+begin 'no new archive over a file that comes to be meanwhile'
+{ many_gets; echo other > a.cab; echo 'insert int 7 #0'; } | "$cab_edit" --new list a.cab > output 2> errors
+ended=$?
+{ yes 'list 0' | head -n 100000; echo ok; } | cmp -s - output || differs 'it printed something else'
+ends 1 'cab: cannot write a.cab\n'
+[ "$(cat a.cab)" = other ] || differs 'the file was written'
+leaves a.cab
+finish
 
 # ---- the examples
 

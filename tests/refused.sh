@@ -1,18 +1,21 @@
 #!/usr/bin/env bash
-# Runs cab and cab_show with each of their allocations, reads, writes and other calls on files refused in turn. After each
+# Runs cab, cab_show and cab_edit with each of their allocations, reads, writes and other calls on files refused in turn. After each
 # run it compares the fault, the status, what was printed and the files that are left with what is written here.
 set -u
 . "$(dirname "$0")/steps.sh"
 . "$root/tests/bytes.sh"
 
+edit=$work/cab_edit
 each=$work/cabinet_refused
 example=$work/archive_example
 if [ $# -eq 0 ]; then
+    proved cab_edit --new list "$work/new.cab"
     proved cabinet_refused
     proved archive_example
 fi
-cp "${3:-$root/crates/cabinet_refused/out/cabinet_refused}" "$each" && chmod +x "$each" || exit 1
-cp "${4:-$root/crates/archive_example/out/archive_example}" "$example" && chmod +x "$example" || exit 1
+cp "${3:-$root/crates/cab_edit/out/cab_edit}" "$edit" && chmod +x "$edit" || exit 1
+cp "${4:-$root/crates/cabinet_refused/out/cabinet_refused}" "$each" && chmod +x "$each" || exit 1
+cp "${5:-$root/crates/archive_example/out/archive_example}" "$example" && chmod +x "$example" || exit 1
 shim=$work/refuse.so
 for compiler in "${CC:-cc}" gcc clang; do
     "$compiler" -O2 -fPIC -shared -nostdlib -fno-builtin -fno-stack-protector -o "$shim" "$root/tests/refuse.c" 2> /dev/null && break
@@ -26,13 +29,17 @@ shopt -s dotglob nullglob
 refusals=0
 
 # row NAME TEXT HEX [LINE ANSWER CHANGES]..: a document's text and archive, and the lines of a run: each with its answer and
-# the changes of the archive, as `with` takes them. After n of the lines, answers[n] were printed, and the archive is
-# states[state_of[n]].
+# the changes of the archive, as `with` takes them, or `=` and the new archive. After n of the lines, answers[n] were printed,
+# and the archive is states[state_of[n]].
 row() {
     row=$1 document=$2 states=("$3") state_of=(0) answers=('') asked=
     shift 3
     while [ $# -gt 0 ]; do
-        [ -z "$3" ] || states+=("$(with "${states[-1]}" $3)")
+        case $3 in
+            '') ;;
+            =*) states+=("${3#=}") ;;
+            *) states+=("$(with "${states[-1]}" $3)") ;;
+        esac
         state_of+=($((${#states[@]} - 1)))
         printf -v "answers[${#answers[@]}]" '%s%s\n' "${answers[-1]}" "$2"
         asked=$asked$1'\n'
@@ -105,6 +112,46 @@ told_run() {
     [ "$is_old" ] && is_left state.0 || is_left "state.${state_of[lines]}"
 }
 
+# The fault of a session on the document of the archive. What memory is refused for before the first line is told by the
+# session or by opening.
+told_edit() {
+    local lines=0 is_prefix= is_old=
+    case $fault in
+        $'cab: cannot read a.cab\n') comes_after 1 0 ;;
+        $'cab: open: OutOfMemory\n' | $'cab: run: OutOfMemory after 0 lines\n') comes_after 2 0 ;;
+        'cab: run: '*' lines'$'\n')
+            lines=$(tr -cd 0-9 < errors)
+            comes_after 3 "$lines"
+            ;;&
+        'cab: run: OutOfMemory after '* | 'cab: run: Read after '*) ;;
+        'cab: run: Write after '*) is_prefix=yes ;;
+        $'cab: save: OutOfMemory\n') comes_after 4 0 && lines=$all is_old=yes ;;
+        $'cab: cannot write a.cab\n') comes_after 5 0 && lines=$all is_old=yes ;;
+        '') lines=$all ;;
+        *) differs "call $at is told as $fault" ;;
+    esac
+    case ${answers[lines]} in
+        "$printed") ;;
+        "$printed"*) [ "$is_prefix" ] || differs "call $at prints $printed" ;;
+        *) differs "call $at prints $printed" ;;
+    esac
+    [ "$is_old" ] && is_left state.0 || is_left "state.${state_of[lines]}"
+}
+
+# The fault of a session on a new document. There is no file where memory was refused for the archive or its answers, or where
+# it was not written; else it is that of the session on an old one.
+told_new() {
+    case $fault in
+        'cab: run: OutOfMemory after 0 lines'$'\n' | $'cab: cannot read a.cab\n' | $'cab: open: OutOfMemory\n' | $'cab: save: OutOfMemory\n' | $'cab: cannot write a.cab\n')
+            if [ ! -e a.cab ]; then
+                cp state.0 a.cab
+            fi
+            ;;
+    esac
+    # memory for the first archive is refused before that for opening it
+    [ "$fault" = $'cab: save: OutOfMemory\n' ] && [ -z "$printed" ] || told_edit
+}
+
 # The fault of showing the archive, as its text or as a map.
 told_show() {
     case $fault in
@@ -129,6 +176,7 @@ each() {
     while
         at=$((at + 1))
         cp "$old" a.cab
+        [ "$old" != none ] || rm a.cab
         refusing "$kind" "$at" "$prefix" "$@"
         [ "$calls" -ge "$at" ] && [ -z "$wrong" ]
     do
@@ -140,13 +188,14 @@ each() {
     done
 }
 
-# Each call of a kind refused in the build of a row, in the run of its lines, and where it is shown and mapped. The map is
-# compared with that of a run in which no call is refused.
+# Each call of a kind refused in the build of a row, in the run of its lines and the session on its document, and where it is
+# shown and mapped. The map is compared with that of a run in which no call is refused. `programs` are those that carry out
+# the lines of a row; with `new` they are carried out in a new document of the kind that is the row's text.
 refused() {
     local n
     all=$((${#answers[@]} - 1))
     kind=$1 prefix=$2
-    for program in build run show map; do
+    for program in $programs; do
         begin "$row: each $kind${prefix:+ after $prefix bytes} of $program is refused"
         text "$document\n"
         for n in "${!states[@]}"; do
@@ -166,6 +215,19 @@ refused() {
             run)
                 lines "$asked"
                 each told_run state.0 "$cab" run a.cab
+                prints "${answers[all]}"
+                cmp -s a.cab "state.${state_of[all]}" || differs 'the archive has other bytes'
+                ;;
+            edit)
+                lines "$asked"
+                each told_edit state.0 "$edit" a.cab
+                prints "${answers[all]}"
+                cmp -s a.cab "state.${state_of[all]}" || differs 'the archive has other bytes'
+                ;;
+            new)
+                lines "$asked"
+                : > none
+                each told_new none "$edit" --new "${document% *}" a.cab
                 prints "${answers[all]}"
                 cmp -s a.cab "state.${state_of[all]}" || differs 'the archive has other bytes'
                 ;;
@@ -198,6 +260,7 @@ refused_each() {
     refused file ''
 }
 
+programs='build run edit show map'
 row 'an ordered map' "ordered 2\n'coffee\nint 300\n'tea\nint 250" "$coffee" \
     get 'ordered 2' '' "get 'tea" 'int 250' '' "set int 275 'tea" ok '80 1301' "get 'tea" 'int 275' ''
 refused_each
@@ -238,6 +301,17 @@ for n in {1..800}; do
     [ $((n % 5)) -gt 0 ] || many+=("get$question$question" missing '')
 done
 row 'many lines' "text '$long" "$(printf '78%.0s' {1..90})$(zeros 6)020000009a0100009cffffff$(zeros 12)" "${many[@]}"
+refused_each
+
+programs='edit'
+row 'a list that grows' 'list 2\nint 7\nint 19' "$seven$nineteen$two" 'get #2' missing '' \
+    'insert int 5 #2' ok "=$seven$nineteen${five}05000000b4ffffff03000000$(zeros 12)" 'get #2' 'int 5' '' 'put list 1 #0' bad '' \
+    "put text 'hello\\sworld! #0" ok "=68656c6c6f20776f726c642100000000020000008c000000ecffffff$(zeros 12)$nineteen${five}05000000b4ffffff03000000$(zeros 12)" \
+    'remove #0' ok "=$nineteen${five}$two" 'remove' refused '' 'get' 'list 2' ''
+refused_each
+programs='edit new'
+row 'a new list' 'list 0' "05000000fcffffff$(zeros 16)" get 'list 0' '' 'insert int 7 #0' ok "=${seven}05000000e4ffffff01000000$(zeros 12)" \
+    'put int 19 #1' ok "=$seven$nineteen$two" 'get #1' 'int 19' ''
 refused_each
 
 # each_call PLACE STEP: the program that makes each call, with one of STEP allocations refused in turn

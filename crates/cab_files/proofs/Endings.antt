@@ -8,14 +8,14 @@ use Rattle.cabinet_text_grammar.specs.Tree.{Tree}
 use Rattle.cabinet_documents.specs.Accepted.{Accepted}
 use Rattle.cabinet.specs.Calls.{EditedByRun}
 use Rattle.cabinet.specs.Editing.{EditedByLines}
-use Rattle.cabinet.specs.Failures.{WriterFails}
+use Rattle.cabinet_text.specs.Failures.{WriterFails}
 use Rattle.cabinet.proofs.SessionLaws.{unedited_bytes_stay}
 use Rattle.cabinet.specs.declared.fault.Fault.{Fault}
 use Rattle.cabinet.specs.declared.fault.Fault.TheVariants.{Usage, CannotRead, CannotWrite, Text, Save, Open, Run}
-use Rattle.cabinet.specs.declared.session.Count.{Count}
-use Rattle.cabinet.specs.declared.session.RunCause.{RunCause}
-use Rattle.cabinet.specs.declared.session.RunCause.TheVariants.{Read, Write, OutOfMemory, LineTooLong, InputTooLong}
-use Rattle.cabinet.specs.declared.session.RunFault.{RunFault}
+use Rattle.cabinet_text.specs.declared.session.Count.{Count}
+use Rattle.cabinet_text.specs.declared.session.RunCause.{RunCause}
+use Rattle.cabinet_text.specs.declared.session.RunCause.TheVariants.{Read, Write, OutOfMemory, LineTooLong, InputTooLong}
+use Rattle.cabinet_text.specs.declared.session.RunFault.{RunFault}
 use Rattle.cab_files.specs.Ending.{IsFlushed, IsFirstFault, IsArchive, EditsArchive, EndsRun}
 
 -- flushing keeps the counts of a run

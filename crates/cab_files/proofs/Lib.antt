@@ -1,2 +1,4 @@
 pub mod Endings
+mod NewRoots
+mod Sessions
 mod Showings

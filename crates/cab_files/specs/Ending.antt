@@ -8,9 +8,9 @@ use Rattle.cabinet_archives.specs.Refused.{refusal_of}
 use Rattle.cabinet.specs.Editing.{EditedByLines}
 use Rattle.cabinet.specs.declared.fault.Fault.{Fault}
 use Rattle.cabinet.specs.declared.fault.Fault.TheVariants.{Usage, CannotRead, CannotWrite, Text, Save, Open, Run}
-use Rattle.cabinet.specs.declared.session.Count.{Count}
-use Rattle.cabinet.specs.declared.session.RunFault.{RunFault}
-use Rattle.cabinet.specs.declared.session.RunCause.TheVariants.{Write}
+use Rattle.cabinet_text.specs.declared.session.Count.{Count}
+use Rattle.cabinet_text.specs.declared.session.RunFault.{RunFault}
+use Rattle.cabinet_text.specs.declared.session.RunCause.TheVariants.{Write}
 
 -- A completed run fails if its last answers were not written. Of two faults the first is kept.
 abbrev pub IsFlushed : Result Count RunFault → (written : Bool) → Result Count RunFault → Type 0

@@ -1,6 +1,8 @@
 pub mod Beside
 pub mod Building
 pub mod Carrying
+pub mod EditWords
+pub mod Editing
 pub mod Ending
 pub mod ShowWords
 pub mod Showing

@@ -60,7 +60,10 @@ abbrev pub failed_writes : (whole : Bool) → ℕ
 failed_writes true = 0
 failed_writes false = 1
 
--- the usage of this program, and for every other fault the line of `cab`
+-- the usage of a program, which is given, and for every other fault the line of `cab`
+abbrev pub reported_with : (usage : List ℕ) → Fault → List ℕ
+reported_with usage Usage = usage
+reported_with usage fault = spelled_fault fault
+
 abbrev pub spelled_report : Fault → List ℕ
-spelled_report Usage = codes "cab_show: usage: cab_show ARCHIVE | cab_show --map [--lines N] [--path N] ARCHIVE\n"
-spelled_report fault = spelled_fault fault
+spelled_report fault = reported_with (codes "cab_show: usage: cab_show ARCHIVE | cab_show --map [--lines N] [--path N] ARCHIVE\n") fault

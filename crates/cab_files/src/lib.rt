@@ -1,4 +1,5 @@
-//! What the programs on files of archives do: `cab` makes and edits an archive, and `cab_show` prints one.
+//! What the programs on files of archives do: `cab` makes and edits an archive, `cab_show` prints one, and `cab_edit` edits one
+//! so that its document may grow.
 #![tactic(auto)]
 
 mod arguments;
@@ -6,6 +7,7 @@ mod beside;
 mod building;
 mod carrying;
 mod command;
+mod editing;
 mod ending;
 mod input;
 mod mapping;
@@ -19,6 +21,9 @@ pub use arguments::words;
 pub use cabinet::{Fault, fault_line};
 pub use carrying::carry_out;
 pub use command::{Command, parse};
+pub use editing::{
+    EditCommand, NewRoot, edit_archive_file, new_archive_file, parse_edit, report_edit,
+};
 pub use ending::exit_code;
 pub use output::OutputStream;
 pub use showing::{ShowCommand, map_archive, parse_show, report, show_archive};

@@ -105,6 +105,21 @@ fn sync_folder<R: Files<File = File>>(rt: &R, path: &str) {
     }
 }
 
+/// Ends the replacing of the file at a path by one beside it: after a fault the file beside it is removed.
+fn finish<R: Files<File = File>>(
+    rt: &R,
+    beside: &Beside,
+    path: &str,
+    outcome: io::Result<()>,
+) -> io::Result<()> {
+    if outcome.is_ok() {
+        sync_folder(rt, path);
+    } else {
+        let _ = fs::remove_file(rt, beside.path.as_str());
+    }
+    outcome
+}
+
 /// Replaces the file at a path, which no link ends. After a fault the file beside it is removed.
 fn replace_file<R: Files<File = File> + AllocGlobal>(
     rt: &R,
@@ -118,12 +133,7 @@ fn replace_file<R: Files<File = File> + AllocGlobal>(
         Ok(()) => rename_over(rt, beside.path.as_str(), path, read),
         refused => refused,
     };
-    if outcome.is_ok() {
-        sync_folder(rt, path);
-    } else {
-        let _ = fs::remove_file(rt, beside.path.as_str());
-    }
-    outcome
+    finish(rt, &beside, path, outcome)
 }
 
 /// Replaces the file at a path, or the one that a link there leads to.
@@ -168,7 +178,7 @@ pub fn write<R: Files<File = File> + AllocGlobal>(
     }
 }
 
-/// Writes an archive over the file at a path. Edits keep its length.
+/// Writes an archive over the file at a path, which gets its length.
 fn write_over<R: Files<File = File>>(
     rt: &R,
     path: &str,
@@ -179,7 +189,11 @@ fn write_over<R: Files<File = File>>(
     if read.is_file() {
         lock_same(rt, &file, path, read)?;
     }
-    file.write_all(archive)
+    file.write_all(archive)?;
+    if (archive.len() as u64) < read.len() {
+        file.set_len(archive.len() as u64)?;
+    }
+    Ok(())
 }
 
 /// Writes an archive back to the file that it was read from, which it replaces.
@@ -195,4 +209,32 @@ pub fn write_back<R: Files<File = File> + AllocGlobal>(
         Err(refusal) if is_irreplaceable(&refusal) => write_over(rt, path, archive, read),
         outcome => outcome,
     }
+}
+
+/// Returns whether nothing is at a path, not even a link that leads to nothing.
+pub fn is_free<R: Files>(rt: &R, path: &str) -> bool {
+    matches!(place_at(rt, path), Ok(Place::Free))
+}
+
+/// Renames a file to a path where nothing is.
+fn rename_to_free<R: Files>(rt: &R, beside: &str, path: &str) -> io::Result<()> {
+    if is_free(rt, path) {
+        fs::rename(rt, beside, path)
+    } else {
+        Err(io::Error::from(ErrorKind::AlreadyExists))
+    }
+}
+
+/// Writes an archive as a new file at a path where nothing is.
+pub fn write_new<R: Files<File = File> + AllocGlobal>(
+    rt: &R,
+    path: &str,
+    archive: &[u8],
+) -> io::Result<()> {
+    let mut beside = Beside::create(rt, path, false)?;
+    let outcome = match beside.fill(archive, None) {
+        Ok(()) => rename_to_free(rt, beside.path.as_str(), path),
+        refused => refused,
+    };
+    finish(rt, &beside, path, outcome)
 }

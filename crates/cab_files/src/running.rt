@@ -17,10 +17,10 @@ use std::io::{BufWriter, IsTerminal};
 use std::rt::Files;
 
 /// The maximum number of bytes of answers that wait to be written.
-const BUFFER: usize = 65536;
+pub const BUFFER: usize = 65536;
 
 /// Returns the outcome of a run, by whether its last answers were written.
-fn flushed(outcome: Result<Count, RunFault>, is_written: bool) -> Result<Count, RunFault>
+pub fn flushed(outcome: Result<Count, RunFault>, is_written: bool) -> Result<Count, RunFault>
     ensures { IsFlushed outcome is_written result }
 {
     match outcome {
@@ -62,7 +62,7 @@ where
 }
 
 /// Returns the number of edits that were done.
-fn edits_of(outcome: &Result<Count, RunFault>) -> u64
+pub fn edits_of(outcome: &Result<Count, RunFault>) -> u64
     ensures { MatchResult outcome.now (λ count. result ≡ count.edits) (λ fault. result ≡ fault.edits) }
 {
     match outcome {

@@ -7,3 +7,4 @@ mod reporting;
 pub use archive::{map_archive, show_archive};
 pub use command::{ShowCommand, parse_show};
 pub use reporting::report;
+pub(crate) use reporting::report_with;
